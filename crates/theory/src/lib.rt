@@ -1,0 +1,1 @@
+// The mathematics of the engine: definitions in specs/, and their laws in proofs/.
