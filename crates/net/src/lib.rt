@@ -1,0 +1,5 @@
+// Nets over any wheel, and galleys that play them.
+pub mod cells;
+mod filling;
+pub mod limits;
+pub mod nets;
