@@ -1,9 +1,9 @@
 -- What cells and nets of the code stand for: each value by the number that the wheel gives it. Assumes nothing.
 use Prim.Native.Nat.{ℕ, _+_, _*_}
-use mathlib.Core.List.{map}
-use lib.ListN.{getD, replicate}
+use mathlib.Core.List.{List, map}
+use lib.ListN.{length, getD, replicate}
 use Rattle.std.specs.Iters.{counting}
-use Rattle.std.specs.Of.Vec.{vec-items, vec-len}
+use Rattle.std.specs.Of.Vec.{vec-items}
 use Rattle.std.specs.Options.{mapped}
 use Rattle.std.specs.declared.option.Option.the-variants.{None}
 use Rattle.theory.specs.Nets as N
@@ -20,15 +20,19 @@ module _ {W : Type 0} (w : Ghosts W) where
   abbrev pub cellOf : Cell W → P.Cell
   cellOf c = record { wanted = mapped (w .number) (c .wanted); turn = w .number (c .turn) }
 
-  -- the cell of place i and one style: cells lie by style
-  abbrev pub cellAt : Net W → ℕ → ℕ → P.Cell
-  cellAt net i style = getD (map cellOf (vec-items (net .cells))) (style * vec-len (net .starts) + i) idle
+  -- the cell of place i for a style: cells lie by style, with one for each place
+  abbrev pub cellAt : List W → List (Cell W) → ℕ → ℕ → P.Cell
+  cellAt starts cells i style = getD (map cellOf cells) (style * length starts + i) idle
 
-  abbrev pub placeOf : Net W → ℕ → P.Place
-  placeOf net i = record { start = getD (map (w .number) (vec-items (net .starts))) i 0; cells = map (cellAt net i) (counting 0 (net .styles)) }
+  abbrev pub placeAt : ℕ → List W → List (Cell W) → ℕ → P.Place
+  placeAt styles starts cells i = record { start = getD (map (w .number) starts) i 0; cells = map (cellAt starts cells i) (counting 0 styles) }
+
+  -- the net of a number of styles, a start value for each place, and cells that lie by style
+  abbrev pub laidOut : ℕ → List W → List (Cell W) → N.Net
+  laidOut styles starts cells = record { order = w .order; styles = styles; places = map (placeAt styles starts cells) (counting 0 (length starts)) }
 
   abbrev pub view : Net W → N.Net
-  view net = record { order = w .order; styles = net .styles; places = map (placeOf net) (counting 0 (vec-len (net .starts))) }
+  view net = laidOut (net .styles) (vec-items (net .starts)) (vec-items (net .cells))
 
   -- a net whose places all start at 0, test nothing and turn nothing
   abbrev pub idle-net : ℕ → ℕ → N.Net

@@ -5,7 +5,10 @@ ghost use mathlib.Core.Path.{_≡_};
 use crate::cells::Cell;
 use wheel::turning::Wheel;
 
+mod columns;
+pub mod errors;
 pub mod making;
+pub mod reading;
 
 // 1 to 16 styles, at most 256 places, and one cell for each place and style.
 // Cells lie by style: those of all places for style 0 first, then those for style 1, and so on.

@@ -1,0 +1,57 @@
+// Reading a net.
+ghost use Prim.Native.Nat.{_<_, _≤_};
+ghost use Rattle.net.specs.Views.{view, cellOf};
+ghost use Rattle.std.specs.Options.{Cases as BySome};
+ghost use Rattle.theory.specs.Nets.{Proper, place as place-number};
+ghost use Rattle.theory.specs.Places.{cell as cell-for};
+ghost use lib.ListN.{length};
+ghost use mathlib.Core.List.{map};
+ghost use mathlib.Core.Path.{_≡_};
+use crate::cells::Cell;
+use crate::nets::Net;
+use wheel::turning::Wheel;
+
+impl<W: Wheel> Net<W> {
+    // How many styles there are.
+    pub fn styles(&self) -> usize
+        ensures counts_the_styles { λ r. ⌜ r ≡ view W·Wheel (now (self .entry)) .styles ⌝ }
+        ensures every_net_is_proper { λ _. ⌜ Proper (view W·Wheel (now (self .entry))) ⌝ }
+    {
+        self.styles
+    }
+
+    // How many places there are.
+    pub fn places(&self) -> usize
+        ensures counts_the_places { λ r. ⌜ r ≡ length (view W·Wheel (now (self .entry)) .places) ⌝ }
+    {
+        self.starts.len()
+    }
+
+    // The start value of a place, if there is such a place.
+    pub fn start(&self, place: usize) -> Option<W>
+        ensures is_the_start_value { λ r. ⌜ BySome r (length (view W·Wheel (now (self .entry)) .places) ≤ place) (λ s. (place < length (view W·Wheel (now (self .entry)) .places)) × (W·Wheel .number s ≡ place-number (view W·Wheel (now (self .entry))) place .start)) ⌝ }
+    {
+        self.starts.get(place).copied()
+    }
+
+    // The cell of a place for a style, if there are such.
+    pub fn cell(&self, place: usize, style: usize) -> Option<Cell<W>>
+        ensures is_the_cell { λ r. ⌜ BySome r ((place < length (view W·Wheel (now (self .entry)) .places)) × (style < view W·Wheel (now (self .entry)) .styles) → ⊥) (λ c. (place < length (view W·Wheel (now (self .entry)) .places)) × (style < view W·Wheel (now (self .entry)) .styles) × (cellOf W·Wheel c ≡ cell-for (place-number (view W·Wheel (now (self .entry))) place) style)) ⌝ }
+    {
+        if place < self.starts.len() && style < self.styles {
+            Some(self.cells[style * self.starts.len() + place])
+        } else {
+            None
+        }
+    }
+
+    // The cells of all places for one style.
+    pub(crate) fn cells_for(&self, style: usize) -> &[Cell<W>]
+        requires one_of_the_styles { ⌜ style < view W·Wheel (now self) .styles ⌝ }
+        ensures one_for_each_place { λ r. ⌜ map (cellOf W·Wheel) (now r) ≡ map (λ p. cell-for p style) (view W·Wheel (now (self .entry)) .places) ⌝ }
+    {
+        let places = self.starts.len();
+        let from = style * places;
+        &self.cells[from..from + places]
+    }
+}
