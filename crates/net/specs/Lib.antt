@@ -1,3 +1,6 @@
 pub mod Views
 pub mod Columns
 pub mod Making
+pub mod Standing
+pub mod Rows
+pub mod Galleys

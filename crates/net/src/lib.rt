@@ -1,5 +1,6 @@
 // Nets over any wheel, and galleys that play them.
 pub mod cells;
 mod filling;
+pub mod galleys;
 pub mod limits;
 pub mod nets;

@@ -1,7 +1,9 @@
 // Reading a net.
 ghost use Prim.Native.Nat.{_<_, _≤_};
 ghost use Rattle.net.specs.Views.{view, cellOf};
+ghost use Rattle.std.specs.Of.Vec.{vec-items, vec-len};
 ghost use Rattle.std.specs.Options.{Cases as BySome};
+ghost use Rattle.std.specs.Vec.{made};
 ghost use Rattle.theory.specs.Nets.{Proper, place as place-number};
 ghost use Rattle.theory.specs.Places.{cell as cell-for};
 ghost use lib.ListN.{length};
@@ -9,6 +11,8 @@ ghost use mathlib.Core.List.{map};
 ghost use mathlib.Core.Path.{_≡_};
 use crate::cells::Cell;
 use crate::nets::Net;
+use std::alloc::AllocError;
+use std::alloc::Global;
 use wheel::turning::Wheel;
 
 impl<W: Wheel> Net<W> {
@@ -38,11 +42,11 @@ impl<W: Wheel> Net<W> {
     pub fn cell(&self, place: usize, style: usize) -> Option<Cell<W>>
         ensures is_the_cell { λ r. ⌜ BySome r ((place < length (view W·Wheel (now (self .entry)) .places)) × (style < view W·Wheel (now (self .entry)) .styles) → ⊥) (λ c. (place < length (view W·Wheel (now (self .entry)) .places)) × (style < view W·Wheel (now (self .entry)) .styles) × (cellOf W·Wheel c ≡ cell-for (place-number (view W·Wheel (now (self .entry))) place) style)) ⌝ }
     {
-        if place < self.starts.len() && style < self.styles {
-            Some(self.cells[style * self.starts.len() + place])
-        } else {
-            None
+        let places = self.starts.len();
+        if place >= places || style >= self.styles {
+            return None;
         }
+        Some(self.cells[style * places + place])
     }
 
     // The cells of all places for one style.
@@ -53,5 +57,13 @@ impl<W: Wheel> Net<W> {
         let places = self.starts.len();
         let from = style * places;
         &self.cells[from..from + places]
+    }
+
+    // A copy of the start values.
+    pub(crate) fn start_values(&self, heap: Global) -> Result<Vec<W>, AllocError>
+        ensures copies_the_start_values { λ r. ⌜ made r (λ v. vec-items v ≡ vec-items (now (self .entry) .starts)) ⌝ }
+        ensures one_for_each_place { λ r. ⌜ made r (λ v. vec-len v ≡ vec-len (now (self .entry) .starts)) ⌝ }
+    {
+        Vec::from_slice(heap, &self.starts)
     }
 }

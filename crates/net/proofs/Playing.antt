@@ -1,0 +1,115 @@
+-- What the row of one style says of the net's places. Assumes nothing.
+use Prim.Native.Nat.{ℕ, _+_, _%_, _<_, _≤_}
+use mathlib.Core.List.{List, [], _∷_, _++_, map}
+use mathlib.Core.Path.{_≡_, refl, sym, ap, ap₂, subst, subst₂, _∙_}
+use native.Mathlib.Omega.{arith}
+use lib.ListN.{length, getD}
+use Rattle.std.proofs.shelf.Lists.{length-map, getD-map, getD-default, same-lists}
+use Rattle.std.specs.Of.Vec.{vec-items}
+use Rattle.std.specs.declared.option.Option.the-variants.{Some}
+use Rattle.theory.proofs.Playing.{accepted-none, accepted-more}
+use Rattle.theory.proofs.Showing.{shows-next, shows-start}
+use Rattle.theory.specs.Nets as N
+use Rattle.theory.specs.Outcomes.{SetOwes, Outcome, refused, place-refuses}
+use Rattle.theory.specs.Places as P
+use Rattle.theory.specs.Playing.{Accepts, FirstRefusing, RefusesAfter}
+use Rattle.theory.specs.Positions.{position}
+use Rattle.wheel.specs.declared.turning.Wheel.{Ghosts}
+use Rattle.net.specs.Rows.{RefusesAt, NoneRefuses, FirstRefuses, Turned}
+use Rattle.net.specs.Standing.{Stands}
+use Rattle.net.specs.Views.{idle, cellOf, placeAt, view}
+use Rattle.net.specs.declared.galleys.refusals.Refusing.{Refusing}
+use Rattle.net.specs.declared.nets.Net.{Net}
+use Rattle.net.proofs.Views.{laid-places, laid-place}
+
+-- what each place shows after the run
+abbrev pub showing : N.Net → List ℕ → List ℕ
+showing M run = map (λ p. P.shows (M .order) p (position (M .order) run)) (M .places)
+
+shown-at : (M : N.Net) (run : List ℕ) (i d : ℕ) → i < length (M .places) → getD (showing M run) i d ≡ P.shows (M .order) (N.place M i) (position (M .order) run)
+shown-at M run i d h = getD-map (λ p. P.shows (M .order) p (position (M .order) run)) (M .places) i (record { start = 0; cells = [] }) d h
+
+-- the cells of all places for the style, and what the places show after the run
+module _ (M : N.Net) (run : List ℕ) (style : ℕ) (cells : List P.Cell) (values : List ℕ) (row : cells ≡ map (λ p. P.cell p style) (M .places)) (shown : values ≡ showing M run) where
+  pub row-count : length cells ≡ length (M .places)
+  row-count = ap length row ∙ length-map (M .places) (λ p. P.cell p style)
+
+  pub value-count : length values ≡ length (M .places)
+  value-count = ap length shown ∙ length-map (M .places) (λ p. P.shows (M .order) p (position (M .order) run))
+
+  cell-is : (i : ℕ) → i < length (M .places) → getD cells i idle ≡ P.cell (N.place M i) style
+  cell-is i h = ap (λ xs. getD xs i idle) row ∙ getD-map (λ p. P.cell p style) (M .places) i (record { start = 0; cells = [] }) idle h
+
+  value-is : (i : ℕ) → i < length (M .places) → getD values i 0 ≡ P.shows (M .order) (N.place M i) (position (M .order) run)
+  value-is i h = ap (λ xs. getD xs i 0) shown ∙ shown-at M run i 0 h
+
+  row-refuses : (i : ℕ) → i < length (M .places) → RefusesAfter M run style i → RefusesAt cells values i
+  row-refuses i h refuses = subst₂ P.Unwanted (ap (λ c. c .wanted) (sym (cell-is i h))) (sym (value-is i h)) refuses
+
+  pub row-accepts : style < M .styles → NoneRefuses cells values (length cells) → Accepts M run style
+  row-accepts known none = record {
+    known = known;
+    free = λ i h refuses. none i (omega (arith, row-count)) (row-refuses i h refuses);
+  }
+
+  -- the refusal that Set owes where a place is the first that refuses
+  pub row-owes : style < M .styles → (q : Refusing) → FirstRefuses cells values q → SetOwes M run style (refused 7 (q .place ∷ q .shown ∷ q .wanted ∷ []))
+  row-owes known q first =
+      let i = q .place in
+      let within : i < length (M .places) = omega (arith, first .within, row-count) in
+      let wanting : P.cell (N.place M i) style .wanted ≡ Some (q .wanted) = ap (λ c. c .wanted) (sym (cell-is i within)) ∙ first .wanting in
+      let showing-is : q .shown ≡ P.shows (M .order) (N.place M i) (position (M .order) run) = first .showing ∙ value-is i within in
+      let refuses : RefusesAfter M run style i = subst₂ P.Unwanted (sym wanting) showing-is (first .differing) in
+      let place-first : FirstRefusing M run style i = record {
+            within = within;
+            refuses = refuses;
+            none-before = λ j h refuses-j. first .none-before j h (row-refuses j (omega arith) refuses-j);
+          } in
+      subst (λ v. SetOwes M run style (refused 7 (i ∷ v ∷ q .wanted ∷ []))) (sym showing-is) (place-refuses known place-first wanting)
+
+  -- after a turn the values are those of the run that is one style longer
+  pub row-turned : N.Proper M → style < M .styles → (after : List ℕ) → Turned (M .order) cells values (length cells) after → after ≡ showing M (run ++ style ∷ [])
+  row-turned proper known after turned = same-lists after (showing M (run ++ style ∷ [])) long each
+    where
+      long : length after ≡ length (showing M (run ++ style ∷ []))
+      long = turned .long ∙ value-count ∙ sym (length-map (M .places) (λ p. P.shows (M .order) p (position (M .order) (run ++ style ∷ []))))
+
+      each : (i d : ℕ) → i < length after → getD after i d ≡ getD (showing M (run ++ style ∷ [])) i d
+      each i d h =
+          let within : i < length (M .places) = omega (arith, turned .long, value-count) in
+          let turn : getD cells i idle .turn ≡ P.cell (N.place M i) style .turn = ap (λ c. c .turn) (cell-is i within) in
+          getD-default after i d 0 h
+          ∙ turned .turned i (omega (arith, row-count))
+          ∙ ap₂ (λ x y. (x + y) % M .order) (value-is i within) turn
+          ∙ sym (shows-next (M .order) (N.place M i) run style (rw (proper .each-place i within .one-cell-each) known))
+          ∙ sym (shown-at M (run ++ style ∷ []) i d within)
+
+module _ {W : Type 0} (w : Ghosts W) (net : Net W) where
+  -- a fresh galley shows the start values
+  pub stands-fresh : N.Proper (view w net) → Stands w net (vec-items (net .starts)) []
+  stands-fresh proper = record {
+    accepted = accepted-none (view w net);
+    showing = same-lists _ _ long each;
+  }
+    where
+      count : length (view w net .places) ≡ length (vec-items (net .starts))
+      count = laid-places w (net .styles) (vec-items (net .starts)) (vec-items (net .cells))
+
+      long : length (map (w .number) (vec-items (net .starts))) ≡ length (showing (view w net) [])
+      long = length-map (vec-items (net .starts)) (w .number) ∙ sym (length-map (view w net .places) (λ p. P.shows (w .order) p (position (w .order) [])) ∙ count)
+
+      each : (i d : ℕ) → i < length (map (w .number) (vec-items (net .starts))) → getD (map (w .number) (vec-items (net .starts))) i d ≡ getD (showing (view w net) []) i d
+      each i d h =
+          let within : i < length (vec-items (net .starts)) = omega (arith, length-map (vec-items (net .starts)) (w .number)) in
+          let placed : i < length (view w net .places) = omega (arith, count) in
+          getD-default (map (w .number) (vec-items (net .starts))) i d 0 h
+          ∙ sym (ap (λ p. p .start) (laid-place w (net .styles) (vec-items (net .starts)) (vec-items (net .cells)) i within))
+          ∙ sym (shows-start (w .order) (N.place (view w net) i) (proper .each-place i placed .start-below))
+          ∙ sym (shown-at (view w net) [] i d placed)
+
+  -- a galley that has set a run, and then accepts a style, has set the longer run
+  pub stands-next : (values after : List W) (run : List ℕ) (style : ℕ) → Accepts (view w net) run style → Stands w net values run → map (w .number) after ≡ showing (view w net) (run ++ style ∷ []) → Stands w net after (run ++ style ∷ [])
+  stands-next values after run style accepts so shows = record {
+    accepted = accepted-more (view w net) run style (so .accepted) accepts;
+    showing = shows;
+  }

@@ -1,0 +1,18 @@
+use mathlib.Core.List.{[]}
+use mathlib.Core.Path.{refl, sym, subst}
+use Rattle.net.specs.Standing.{Stands}
+use Rattle.net.proofs.Playing.{stands-fresh}
+use Rattle.net.proofs.Proper.{proper}
+use Rattle.net.proofs.galleys.Galley.stand.Needs as need
+
+pub returns : need.returns
+returns g c =
+    let w = g .W·Wheel in
+    let laws = g .W·Wheel·met in
+    let net = c .args .net .now in
+    record {
+      has-set-the-empty-run =
+        subst (λ values. Stands w net values []) (sym (c .in-Continue-shown .ensures tt .copies-the-start-values))
+        (stands-fresh w net (proper w (laws .«at_least_two») (laws .«at_most_nine») (laws .«numbers_are_below_the_order») net));
+      stands-on-the-net = refl;
+    }
