@@ -1,5 +1,5 @@
 -- Every net keeps the limits. Assumes nothing.
-use Prim.Native.Nat.{ℕ, zero, suc, _*_, _<_, _≤_}
+use Prim.Native.Nat.{ℕ, zero, suc, _+_, _*_, _<_, _≤_}
 use mathlib.Core.List.{List, [], _∷_, map}
 use mathlib.Core.Path.{_≡_, sym, ap, subst, _∙_}
 use native.Mathlib.Omega.{arith}
@@ -15,6 +15,7 @@ use Rattle.wheel.specs.declared.turning.Wheel.{Ghosts}
 use Rattle.net.specs.Views.{idle, cellOf, cellAt, placeAt, view}
 use Rattle.net.specs.declared.cells.Cell.{Cell}
 use Rattle.net.specs.declared.nets.Net.{Net}
+use Rattle.net.proofs.ByStyle.{row-room}
 use Rattle.net.proofs.Views.{laid-places, laid-place}
 
 module _ {W : Type 0} (w : Ghosts W) where
@@ -25,6 +26,11 @@ module _ {W : Type 0} (w : Ghosts W) where
   -- the number of cells
   pub cells-counted : (net : Net W) → length (vec-items (net .cells)) ≡ net .styles * length (vec-items (net .starts))
   cells-counted net = sym (net .cells .ok .0) ∙ net .«one_cell_each» ∙ ap (λ z. net .styles * z) (net .starts .ok .0)
+
+  -- the row of a style ends within the table
+  pub row-within : (net : Net W) (style p : ℕ) (cells : List (Cell W)) → style < net .styles → p ≡ vec-len (net .starts) → cells ≡ vec-items (net .cells) → style * p + p ≤ length cells
+  row-within net style p cells below count e =
+      row-room (net .styles) p style (length cells) below (ap length e ∙ cells-counted net ∙ ap (λ z. net .styles * z) (sym (count ∙ net .starts .ok .0)))
 
   module _ (from-two : 2 ≤ w .order) (to-nine : w .order ≤ 9) (below : (x : W) → w .number x < w .order) where
     number-below : (xs : List W) (i : ℕ) → getD (map (w .number) xs) i 0 < w .order

@@ -4,3 +4,4 @@ pub mod Making
 pub mod Standing
 pub mod Rows
 pub mod Galleys
+pub mod Refusals

@@ -7,6 +7,7 @@ use wheel::turning::Wheel;
 
 pub mod refusals;
 mod rows;
+pub mod setting;
 pub mod standing;
 
 // The net, and what each place shows after the run that has been set.

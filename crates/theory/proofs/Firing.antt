@@ -14,7 +14,8 @@ use Rattle.theory.specs.Nets.{Net, Proper, place}
 use Rattle.theory.specs.Places.{cell, shows, Unwanted}
 use Rattle.theory.specs.Playing.{Accepts, Accepted}
 use Rattle.theory.specs.Positions.{position}
-use Rattle.theory.specs.TestAndFlip.{Marking, Enabled, Fires, fired, test-and-flip, tests, offset}
+use Rattle.theory.specs.TestAndFlip.{Marking, Enabled, Fires, FiringSequence, fired, test-and-flip, tests, offset}
+use Rattle.theory.proofs.Playing.{accepted-more, accepted-last}
 use Rattle.theory.proofs.Showing.{shows-next, shows-start}
 
 -- v − w ≡ 0 modulo k only where v is w
@@ -105,8 +106,15 @@ module _ (N : Net) (proper : Proper N) where
   marks-start : Marks (test-and-flip N .start) []
   marks-start p hp = sym (shows-start (N .order) (place N p) (proper .each-place p hp .start-below))
 
-  pub accepted-fires : (run : List ℕ) → Accepted N run → Fires (test-and-flip N) (test-and-flip N .start) run
+  pub accepted-fires : (run : List ℕ) → Accepted N run → FiringSequence N run
   accepted-fires run all = fires [] run (test-and-flip N .start) marks-start all
 
-  pub fires-accepted : (run : List ℕ) → Fires (test-and-flip N) (test-and-flip N .start) run → Accepted N run
+  pub fires-accepted : (run : List ℕ) → FiringSequence N run → Accepted N run
   fires-accepted run on = fired-accepted [] run (test-and-flip N .start) marks-start on
+
+  -- a style is accepted after an accepted run exactly where the longer run is a firing sequence
+  pub accepts-fires : (run : List ℕ) (style : ℕ) → Accepted N run → Accepts N run style → FiringSequence N (run ++ style ∷ [])
+  accepts-fires run style before here = accepted-fires (run ++ style ∷ []) (accepted-more N run style before here)
+
+  pub fires-accepts : (run : List ℕ) (style : ℕ) → FiringSequence N (run ++ style ∷ []) → Accepts N run style
+  fires-accepts run style on = accepted-last N run style (fires-accepted (run ++ style ∷ []) on)

@@ -66,3 +66,7 @@ test-and-flip N = record {
   c = λ p t. entries (N .order) (cell (place N p) t) .c;
   start = λ p. place N p .start;
 }
+
+-- the run is a firing sequence from the start marking
+abbrev pub FiringSequence : Net → List ℕ → Type 0
+FiringSequence N run = Fires (test-and-flip N) (test-and-flip N .start) run

@@ -53,6 +53,7 @@ impl<W: Wheel> Net<W> {
     pub(crate) fn cells_for(&self, style: usize) -> &[Cell<W>]
         requires one_of_the_styles { ⌜ style < view W·Wheel (now self) .styles ⌝ }
         ensures one_for_each_place { λ r. ⌜ map (cellOf W·Wheel) (now r) ≡ map (λ p. cell-for p style) (view W·Wheel (now (self .entry)) .places) ⌝ }
+        ensures as_many_as_places { λ r. ⌜ length (now r) ≡ vec-len (now (self .entry) .starts) ⌝ }
     {
         let places = self.starts.len();
         let from = style * places;

@@ -1,0 +1,88 @@
+use Prim.Native.Nat.{_<_}
+use mathlib.Core.List.{map}
+use mathlib.Core.Path.{_≡_, refl, sym, ap, subst, _∙_}
+use native.Mathlib.Omega.{arith}
+use lib.ListN.{length}
+use Rattle.std.proofs.shelf.Lists.{length-map}
+use Rattle.std.proofs.shelf.Tests.{false≢true}
+use Rattle.std.specs.Of.Vec.{vec-items}
+use Rattle.theory.proofs.Firing.{accepts-fires, fires-accepts}
+use Rattle.theory.proofs.Owed.{owed-refusal}
+use Rattle.theory.specs.Outcomes.{unknown-style, accepted}
+use Rattle.theory.specs.Places.{cell}
+use Rattle.net.specs.Rows.{NoneRefuses, FirstRefuses, Turned}
+use Rattle.net.specs.Views.{cellOf, view}
+use Rattle.net.proofs.Playing.{row-accepts, row-owes, row-turned, stands-next}
+use Rattle.net.proofs.galleys.Galley.set.Needs as need
+
+pub first-refusing-requires : need.first-refusing-requires
+first-refusing-requires g c κs = record {
+  a-cell-for-each-place = c .cells-for-cells .ensures .as-many-as-places ∙ sym (c .args .self .now .«one_value_each») ∙ sym (c .as-slice .ensures .len);
+}
+
+pub turn-all-requires : need.turn-all-requires
+turn-all-requires g c κs = record { a-cell-for-each-place = c .cells-for-cells .ensures .as-many-as-places ∙ sym (c .args .self .now .«one_value_each») }
+
+pub returns-then-style-styles : need.returns-then-style-styles
+returns-then-style-styles g c =
+    let proper = c .styles .ensures .every-net-is-proper in
+    record {
+      answers-as-owed = λ run so. unknown-style (omega arith);
+      has-set-the-run-after = λ run so. so;
+      accepts-exactly-what-fires = λ run so.
+        (λ e. absurd (false≢true e),
+         λ fires. absurd (owed-refusal {run = run} (unknown-style (omega arith)) (fires-accepts _ proper run (c .args .style) fires)));
+      stands-on-the-same-net = refl;
+      refused-calls-change-nothing = λ e. refl;
+    }
+
+pub returns-in-Some : need.returns-in-Some
+returns-in-Some g c =
+    let w = g .W·Wheel in
+    let galley = c .args .self .now in
+    let net = view w (galley .net .now) in
+    let style = c .args .style in
+    let proper = c .styles .ensures .every-net-is-proper in
+    let cells = map (cellOf w) (c .cells-for-cells .result .now) in
+    let row : cells ≡ map (λ p. cell p style) (net .places) = c .cells-for-cells .ensures .one-for-each-place ∙ ap (λ s. map (λ p. cell p s) (net .places)) (c .from-style .ensures) in
+    let known : style < net .styles = omega arith in
+    let first : FirstRefuses cells (map (w .number) (vec-items (galley .shown))) (c .in-Some .refusing) =
+        subst (λ values. FirstRefuses cells (map (w .number) values) (c .in-Some .refusing)) (c .as-slice .ensures .value) (c .in-Some .ensures tt .is-the-first) in
+    record {
+      answers-as-owed = λ run so. row-owes net run style cells (map (w .number) (vec-items (galley .shown))) row (so .showing) known (c .in-Some .refusing) first;
+      has-set-the-run-after = λ run so. so;
+      accepts-exactly-what-fires = λ run so.
+        (λ e. absurd (false≢true e),
+         λ fires. absurd (owed-refusal (row-owes net run style cells (map (w .number) (vec-items (galley .shown))) row (so .showing) known (c .in-Some .refusing) first) (fires-accepts net proper run style fires)));
+      stands-on-the-same-net = refl;
+      refused-calls-change-nothing = λ e. refl;
+    }
+
+pub returns-in-None : need.returns-in-None
+returns-in-None g c =
+    let w = g .W·Wheel in
+    let galley = c .args .self .now in
+    let net = view w (galley .net .now) in
+    let style = c .args .style in
+    let proper = c .styles .ensures .every-net-is-proper in
+    let cells = map (cellOf w) (c .cells-for-cells .result .now) in
+    let values = map (w .number) (vec-items (galley .shown)) in
+    let row : cells ≡ map (λ p. cell p style) (net .places) = c .cells-for-cells .ensures .one-for-each-place ∙ ap (λ s. map (λ p. cell p s) (net .places)) (c .from-style .ensures) in
+    let known : style < net .styles = omega arith in
+    let long : length (c .cells-for-cells .result .now) ≡ length cells = sym (length-map (c .cells-for-cells .result .now) (cellOf w)) in
+    let none : NoneRefuses cells values (length cells) =
+        subst (NoneRefuses cells values) long
+        (subst (λ shown. NoneRefuses cells (map (w .number) shown) (length (c .cells-for-cells .result .now))) (c .as-slice .ensures .value) (c .in-None .ensures tt .is-the-first)) in
+    let turned : Turned (w .order) cells values (length cells) (map (w .number) (vec-items (c .turn-all .last .shown))) =
+        subst (λ n. Turned (w .order) cells values n (map (w .number) (vec-items (c .turn-all .last .shown)))) long (c .turn-all .ensures .each-place-turns) in
+    record {
+      answers-as-owed = λ run so. accepted (row-accepts net run style cells values row (so .showing) known none);
+      has-set-the-run-after = λ run so.
+        stands-next w (galley .net .now) (vec-items (galley .shown)) (vec-items (c .turn-all .last .shown)) run style (row-accepts net run style cells values row (so .showing) known none) so
+        (row-turned net run style cells values row (so .showing) proper known (map (w .number) (vec-items (c .turn-all .last .shown))) turned);
+      accepts-exactly-what-fires = λ run so.
+        (λ e. accepts-fires net proper run style (so .accepted) (row-accepts net run style cells values row (so .showing) known none),
+         λ fires. refl);
+      stands-on-the-same-net = refl;
+      refused-calls-change-nothing = λ e. absurd (false≢true e);
+    }
