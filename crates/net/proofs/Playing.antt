@@ -7,6 +7,7 @@ use lib.ListN.{length, getD}
 use Rattle.std.proofs.shelf.Lists.{length-map, getD-map, getD-default, same-lists}
 use Rattle.std.specs.Of.Vec.{vec-items}
 use Rattle.std.specs.declared.option.Option.the-variants.{Some}
+use Rattle.theory.proofs.Firing.{meets, frees}
 use Rattle.theory.proofs.Playing.{accepted-none, accepted-more}
 use Rattle.theory.proofs.Showing.{shows-next, shows-start}
 use Rattle.theory.specs.Nets as N
@@ -14,6 +15,7 @@ use Rattle.theory.specs.Outcomes.{SetOwes, Outcome, refused, place-refuses}
 use Rattle.theory.specs.Places as P
 use Rattle.theory.specs.Playing.{Accepts, FirstRefusing, RefusesAfter}
 use Rattle.theory.specs.Positions.{position}
+use Rattle.theory.specs.TestAndFlip.{Enabled, Leads, test-and-flip}
 use Rattle.wheel.specs.declared.turning.Wheel.{Ghosts}
 use Rattle.net.specs.Rows.{RefusesAt, NoneRefuses, FirstRefuses, Turned}
 use Rattle.net.specs.Standing.{Stands}
@@ -83,6 +85,43 @@ module _ (M : N.Net) (run : List ℕ) (style : ℕ) (cells : List P.Cell) (value
           ∙ ap₂ (λ x y. (x + y) % M .order) (value-is i within) turn
           ∙ sym (shows-next (M .order) (N.place M i) run style (rw (proper .each-place i within .one-cell-each) known))
           ∙ sym (shown-at M (run ++ style ∷ []) i d within)
+
+-- one style's cells beside any values below k, read as a marking
+module _ (M : N.Net) (style : ℕ) (cells : List P.Cell) (values : List ℕ) (row : cells ≡ map (λ p. P.cell p style) (M .places)) (proper : N.Proper M) (below : (i : ℕ) → getD values i 0 < M .order) (known : style < M .styles) where
+  place-cell : (i : ℕ) → i < length (M .places) → getD cells i idle ≡ P.cell (N.place M i) style
+  place-cell i h = ap (λ xs. getD xs i idle) row ∙ getD-map (λ p. P.cell p style) (M .places) i (record { start = 0; cells = [] }) idle h
+
+  wanted-below : (i : ℕ) → i < length (M .places) → (v : ℕ) → P.cell (N.place M i) style .wanted ≡ Some v → v < M .order
+  wanted-below i h = proper .each-place i h .cells-below style known .wanted-below
+
+  cell-count : length cells ≡ length (M .places)
+  cell-count = ap length row ∙ length-map (M .places) (λ p. P.cell p style)
+
+  pub none-enabled : NoneRefuses cells values (length cells) → Enabled (test-and-flip M) (λ p. getD values p 0) style
+  none-enabled none = record {
+    is-transition = known;
+    at-each-place = λ p h.
+      meets (M .order) (P.cell (N.place M p) style .wanted) (getD values p 0) (wanted-below p h)
+      (λ unwanted. none p (omega (arith, cell-count)) (subst (λ c. P.Unwanted (c .wanted) (getD values p 0)) (sym (place-cell p h)) unwanted));
+  }
+
+  pub enabled-none : Enabled (test-and-flip M) (λ p. getD values p 0) style → NoneRefuses cells values (length cells)
+  enabled-none on p h refuses =
+      let within : p < length (M .places) = omega (arith, cell-count) in
+      frees (M .order) (P.cell (N.place M p) style .wanted) (getD values p 0) (below p) (wanted-below p within) (on .at-each-place p within)
+      (subst (λ c. P.Unwanted (c .wanted) (getD values p 0)) (place-cell p within) refuses)
+
+  pub turned-leads : NoneRefuses cells values (length cells) → (after : List ℕ) → Turned (M .order) cells values (length cells) after → Leads (test-and-flip M) (λ p. getD values p 0) style (λ p. getD after p 0)
+  turned-leads none after turned = record {
+    enabled = none-enabled none;
+    moved = λ p h.
+      turned .turned p (omega (arith, cell-count)) ∙ ap (λ c. (getD values p 0 + c .turn) % M .order) (place-cell p h);
+  }
+
+  -- a place that refuses does not let the transition be enabled
+  pub refusing-disables : (q : Refusing) → FirstRefuses cells values q → Enabled (test-and-flip M) (λ p. getD values p 0) style → ⊥
+  refusing-disables q first on =
+      enabled-none on (q .place) (first .within) (subst₂ P.Unwanted (sym (first .wanting)) (first .showing) (first .differing))
 
 module _ {W : Type 0} (w : Ghosts W) (net : Net W) where
   -- a fresh galley shows the start values

@@ -33,7 +33,7 @@ module _ {W : Type 0} (w : Ghosts W) where
       row-room (net .styles) p style (length cells) below (ap length e ∙ cells-counted net ∙ ap (λ z. net .styles * z) (sym (count ∙ net .starts .ok .0)))
 
   module _ (from-two : 2 ≤ w .order) (to-nine : w .order ≤ 9) (below : (x : W) → w .number x < w .order) where
-    number-below : (xs : List W) (i : ℕ) → getD (map (w .number) xs) i 0 < w .order
+    pub number-below : (xs : List W) (i : ℕ) → getD (map (w .number) xs) i 0 < w .order
     number-below [] i = omega arith
     number-below (x ∷ xs) zero = below x
     number-below (x ∷ xs) (suc i) = number-below xs i

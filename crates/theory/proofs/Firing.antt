@@ -44,7 +44,7 @@ zero-difference k (suc w) hw =
     ap (λ z. z % k) (omega arith) ∙ mod-self k
 
 -- a cell's a and b say that its place does not refuse: a·v + b ≡ 0 exactly where v is not an unwanted value
-meets : (k : ℕ) (o : Option ℕ) (v : ℕ) → ((w : ℕ) → o ≡ Some w → w < k) → (Unwanted o v → ⊥) → (tests o * v + offset k o) % k ≡ 0
+pub meets : (k : ℕ) (o : Option ℕ) (v : ℕ) → ((w : ℕ) → o ≡ Some w → w < k) → (Unwanted o v → ⊥) → (tests o * v + offset k o) % k ≡ 0
 meets k None v below free = ap (λ z. z % k) (omega arith) ∙ zero-mod k
 meets k (Some w) v below free =
     ⊎-elim
@@ -52,7 +52,7 @@ meets k (Some w) v below free =
     (λ ne. absurd (free ne))
     (cases-eq v w)
 
-frees : (k : ℕ) (o : Option ℕ) (v : ℕ) → v < k → ((w : ℕ) → o ≡ Some w → w < k) → (tests o * v + offset k o) % k ≡ 0 → Unwanted o v → ⊥
+pub frees : (k : ℕ) (o : Option ℕ) (v : ℕ) → v < k → ((w : ℕ) → o ≡ Some w → w < k) → (tests o * v + offset k o) % k ≡ 0 → Unwanted o v → ⊥
 frees k None v hv below e unwanted = unwanted
 frees k (Some w) v hv below e unwanted = unwanted (difference-zero k v w hv (below w refl) e)
 

@@ -4,5 +4,6 @@ pub mod Places
 pub mod Nets
 pub mod Playing
 pub mod Outcomes
+pub mod Menus
 pub mod TestAndFlip
 pub mod Arcs

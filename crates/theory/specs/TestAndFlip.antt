@@ -31,6 +31,11 @@ pub record Enabled (F : TestAndFlip) (m : Marking) (t : ℕ) : Type 0 where
 abbrev pub fired : TestAndFlip → Marking → ℕ → Marking
 fired F m t = λ p. (m p + F .c p t) % F .order
 
+-- transition t leads from m to m′
+pub record Leads (F : TestAndFlip) (m : Marking) (t : ℕ) (m′ : Marking) : Type 0 where
+  pub enabled : Enabled F m t
+  pub moved : (p : ℕ) → p < F .places → m′ p ≡ fired F m t p
+
 -- a firing sequence from m: its first transition is enabled in m, and the rest is one from the marking that firing it gives
 abbrev pub Fires : TestAndFlip → Marking → List ℕ → Type 0
 Fires F m [] = Unit {0}

@@ -1,8 +1,8 @@
-use Prim.Native.Nat.{_<_}
-use mathlib.Core.List.{map}
+use Prim.Native.Nat.{ℕ, _<_}
+use mathlib.Core.List.{List, map}
 use mathlib.Core.Path.{_≡_, refl, sym, ap, subst, _∙_}
 use native.Mathlib.Omega.{arith}
-use lib.ListN.{length}
+use lib.ListN.{length, getD}
 use Rattle.std.proofs.shelf.Lists.{length-map}
 use Rattle.std.proofs.shelf.Tests.{false≢true}
 use Rattle.std.specs.Of.Vec.{vec-items}
@@ -12,8 +12,14 @@ use Rattle.theory.specs.Outcomes.{unknown-style, accepted}
 use Rattle.theory.specs.Places.{cell}
 use Rattle.net.specs.Rows.{NoneRefuses, FirstRefuses, Turned}
 use Rattle.net.specs.Views.{cellOf, view}
-use Rattle.net.proofs.Playing.{row-accepts, row-owes, row-turned, stands-next}
+use Rattle.net.proofs.Playing.{row-accepts, row-owes, row-turned, stands-next, turned-leads, refusing-disables}
+use Rattle.net.proofs.Proper.{number-below}
+use Rattle.net.proofs.galleys.Galley.set.Given as given
 use Rattle.net.proofs.galleys.Galley.set.Needs as need
+
+-- what the places show is below k
+below : (g : given.Over) (values : List (g .W .Denot)) (i : ℕ) → getD (map (g .W·Wheel .number) values) i 0 < g .W·Wheel .order
+below g = let laws = g .W·Wheel·met in number-below (g .W·Wheel) (laws .«at_least_two») (laws .«at_most_nine») (laws .«numbers_are_below_the_order»)
 
 pub first-refusing-requires : need.first-refusing-requires
 first-refusing-requires g c κs = record {
@@ -32,6 +38,7 @@ returns-then-style-styles g c =
       accepts-exactly-what-fires = λ run so.
         (λ e. absurd (false≢true e),
          λ fires. absurd (owed-refusal {run = run} (unknown-style (omega arith)) (fires-accepts _ proper run (c .args .style) fires)));
+      fires-in-the-shown-marking = (λ e. absurd (false≢true e), λ on. absurd (omega (arith, on .is-transition)));
       stands-on-the-same-net = refl;
       refused-calls-change-nothing = λ e. refl;
     }
@@ -54,6 +61,9 @@ returns-in-Some g c =
       accepts-exactly-what-fires = λ run so.
         (λ e. absurd (false≢true e),
          λ fires. absurd (owed-refusal (row-owes net run style cells (map (w .number) (vec-items (galley .shown))) row (so .showing) known (c .in-Some .refusing) first) (fires-accepts net proper run style fires)));
+      fires-in-the-shown-marking =
+        (λ e. absurd (false≢true e),
+         λ on. absurd (refusing-disables net style cells (map (w .number) (vec-items (galley .shown))) row proper (below g (vec-items (galley .shown))) known (c .in-Some .refusing) first on));
       stands-on-the-same-net = refl;
       refused-calls-change-nothing = λ e. refl;
     }
@@ -83,6 +93,9 @@ returns-in-None g c =
       accepts-exactly-what-fires = λ run so.
         (λ e. accepts-fires net proper run style (so .accepted) (row-accepts net run style cells values row (so .showing) known none),
          λ fires. refl);
+      fires-in-the-shown-marking =
+        (λ e. turned-leads net style cells values row proper (below g (vec-items (galley .shown))) known none (map (w .number) (vec-items (c .turn-all .last .shown))) turned,
+         λ on. refl);
       stands-on-the-same-net = refl;
       refused-calls-change-nothing = λ e. absurd (false≢true e);
     }
