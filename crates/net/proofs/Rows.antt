@@ -1,12 +1,16 @@
 -- Going through one style's cells, place by place. Assumes nothing.
 use Prim.Native.Nat.{ℕ, _+_, _%_, _<_}
+use mathlib.Core.Bool.{true, false}
 use mathlib.Core.List.{List, map}
 use mathlib.Core.Logic.{⊎-elim}
 use mathlib.Core.Path.{_≡_, sym, ap, _∙_}
 use native.Mathlib.Omega.{arith}
 use lib.ListN.{length, getD, set}
 use Rattle.std.proofs.shelf.Lists.{length-set, getD-map, getD-set-same, getD-set-other}
-use Rattle.std.proofs.shelf.Tests.{cases-eq}
+use Rattle.std.proofs.shelf.Tests.{cases-eq, true≢false, false≢true}
+use Rattle.std.specs.Options.{Cases, isSome}
+use Rattle.std.specs.declared.option.Option.{Option}
+use Rattle.std.specs.declared.option.Option.the-variants.{Some, None}
 use Rattle.theory.specs.Places.{Cell}
 use Rattle.net.specs.Rows.{Turned}
 use Rattle.net.specs.Views.{idle}
@@ -30,3 +34,12 @@ turned-more k cells before now i v h value so-far = record {
   kept = λ j past.
     getD-set-other now i j v 0 (λ e. past (omega arith)) ∙ so-far .kept j (λ below. past (omega arith));
 }
+
+-- what holds of an option by its cases, once the case is known
+pub none-case : {X : Type 0} (o : Option X) (P : Type 0) (Q : X → Type 0) → Cases o P Q → isSome o ≡ false → P
+none-case None P Q c e = c
+none-case (Some x) P Q c e = absurd (true≢false e)
+
+pub some-case : {X : Type 0} (o : Option X) (P : Type 0) (Q : X → Type 0) → Cases o P Q → isSome o ≡ true → (x : X) × Q x
+some-case None P Q c e = absurd (false≢true e)
+some-case (Some x) P Q c e = (x, c)

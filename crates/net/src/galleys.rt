@@ -5,6 +5,7 @@ ghost use mathlib.Core.Path.{_≡_};
 use crate::nets::Net;
 use wheel::turning::Wheel;
 
+pub mod menu;
 pub mod refusals;
 mod rows;
 pub mod setting;

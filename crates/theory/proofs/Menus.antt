@@ -4,7 +4,9 @@ use mathlib.Core.Logic.{⊎-elim}
 use mathlib.Core.Path.{_≡_, sym, ap, subst, _∙_}
 use native.Mathlib.Nat.{div-eq-of-lt, add-mul-div-right, add-mul-mod-self-right}
 use native.Mathlib.Omega.{arith}
+use lib.Bits.{bitOr}
 use lib.Pow.{pow-pos, pow-add, pow-mono}
+use Rattle.std.proofs.shelf.Bits.{one-shl, or-comm, or-shifted}
 use Rattle.std.proofs.shelf.Tests.{cases-eq, cases-lt}
 use Rattle.theory.specs.Menus.{bit, Offers}
 
@@ -80,3 +82,12 @@ module _ (P : ℕ → Type 0) (n menu : ℕ) (so-far : Filled P n menu) where
       (cases-lt t n);
     all-these = λ t holds. so-far .all-these t (below t holds) (takes t holds);
   }
+
+-- `menu | 1 << n` at a number of 16 bits that has no bit at n or above
+pub bit-added : (n menu : ℕ) → n < 16 → menu < 2 ^ n → bitOr menu ((1 * 2 ^ n) % 2 ^ 16) ≡ menu + 2 ^ n
+bit-added n menu few small =
+    ap (bitOr menu) (one-shl n 16 few)
+    ∙ or-comm menu (2 ^ n)
+    ∙ ap (λ z. bitOr z menu) (omega arith)
+    ∙ or-shifted 1 n menu small
+    ∙ omega arith
