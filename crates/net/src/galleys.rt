@@ -7,9 +7,11 @@ use wheel::turning::Wheel;
 
 pub mod menu;
 pub mod refusals;
+mod restoring;
 mod rows;
 pub mod setting;
 pub mod standing;
+pub mod trying;
 
 // The net, and what each place shows after the run that has been set.
 // `saved` is room for a copy of the shown values, which Try makes.

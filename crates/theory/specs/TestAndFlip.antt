@@ -1,8 +1,8 @@
 -- Test and Flip nets over the integers modulo k, and the one that a net of places stands for. Assumes nothing.
-use Prim.Native.Nat.{ℕ, _+_, _-_, _*_, _%_, _<_}
+use Prim.Native.Nat.{ℕ, _+_, _-_, _*_, _%_, _<_, _≤_}
 use mathlib.Core.List.{List, [], _∷_}
 use mathlib.Core.Path.{_≡_}
-use lib.ListN.{length}
+use lib.ListN.{length, take}
 use Rattle.std.specs.declared.option.Option.{Option}
 use Rattle.std.specs.declared.option.Option.the-variants.{Some, None}
 use Rattle.theory.specs.Nets.{Net, place}
@@ -40,6 +40,12 @@ pub record Leads (F : TestAndFlip) (m : Marking) (t : ℕ) (m′ : Marking) : Ty
 abbrev pub Fires : TestAndFlip → Marking → List ℕ → Type 0
 Fires F m [] = Unit {0}
 Fires F m (t ∷ ts) = Enabled F m t × Fires F (fired F m t) ts
+
+-- c transitions of the sequence can be fired from m, one after the other, and no more
+pub record LongestFiring (F : TestAndFlip) (m : Marking) (ts : List ℕ) (c : ℕ) : Type 0 where
+  pub within : c ≤ length ts
+  pub fires : Fires F m (take c ts)
+  pub no-further : c < length ts → Fires F m (take (c + 1) ts) → ⊥
 
 -- the a of a cell: 1 where the style is tested
 abbrev pub tests : Option ℕ → ℕ
