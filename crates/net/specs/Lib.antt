@@ -1,3 +1,4 @@
+pub mod Arcs
 pub mod Views
 pub mod Columns
 pub mod Making

@@ -5,6 +5,7 @@ use mathlib.Core.Path.{_≡_}
 use lib.ListN.{length, set}
 use Rattle.std.specs.declared.result.Result.{Result}
 use Rattle.std.specs.declared.result.Result.the-variants.{Ok, Err}
+use Rattle.theory.specs.Limits.{style-limit, place-limit}
 use Rattle.theory.specs.Nets as N
 use Rattle.theory.specs.Places as P
 use Rattle.wheel.specs.declared.turning.Wheel.{Ghosts}
@@ -19,7 +20,7 @@ use Rattle.net.specs.declared.nets.errors.PlaceError.the-variants.{NoSuchPlace
 -- a number of styles that a net can have
 pub record StyleCountGood (styles : ℕ) : Type 0 where
   pub some : 1 ≤ styles
-  pub few : styles ≤ 16
+  pub few : styles ≤ style-limit
 
 -- the net with place number i replaced
 abbrev pub with-place : N.Net → ℕ → P.Place → N.Net
@@ -28,10 +29,10 @@ with-place M i p = record { order = M .order; styles = M .styles; places = set (
 module _ {W : Type 0} (w : Ghosts W) where
   -- the number of styles is tested first, then the number of places, and then memory is asked for
   abbrev pub IdleOwes : ℕ → ℕ → Result (Net W) NetError → Type 0
-  IdleOwes styles places (Ok net) = StyleCountGood styles × (places ≤ 256) × (view w net ≡ idle-net w styles places)
+  IdleOwes styles places (Ok net) = StyleCountGood styles × (places ≤ place-limit) × (view w net ≡ idle-net w styles places)
   IdleOwes styles places (Err (StyleCount s)) = (s ≡ styles) × (StyleCountGood styles → ⊥)
-  IdleOwes styles places (Err (PlaceCount p)) = (p ≡ places) × StyleCountGood styles × (256 < places)
-  IdleOwes styles places (Err OutOfMemory) = StyleCountGood styles × (places ≤ 256)
+  IdleOwes styles places (Err (PlaceCount p)) = (p ≡ places) × StyleCountGood styles × (place-limit < places)
+  IdleOwes styles places (Err OutOfMemory) = StyleCountGood styles × (places ≤ place-limit)
 
   -- the number of the place is tested first, then the number of cells
   abbrev pub PutOwes : Net W → ℕ → W → List (Cell W) → Net W → {E : Type 0} → Result E PlaceError → Type 0

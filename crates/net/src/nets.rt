@@ -1,6 +1,7 @@
 // Nets on any wheel.
 ghost use Prim.Native.Nat.{_*_, _≤_};
 ghost use Rattle.std.specs.Of.Vec.{vec-len};
+ghost use Rattle.theory.specs.Limits.{style-limit, place-limit};
 ghost use mathlib.Core.Path.{_≡_};
 use crate::cells::Cell;
 use wheel::turning::Wheel;
@@ -18,7 +19,7 @@ pub struct Net<W: Wheel> {
     starts: Vec<W>,
     cells: Vec<Cell<W>>,
     ghost some_style: { 1 ≤ styles },
-    ghost few_styles: { styles ≤ 16 },
-    ghost few_places: { vec-len starts ≤ 256 },
+    ghost few_styles: { styles ≤ style-limit },
+    ghost few_places: { vec-len starts ≤ place-limit },
     ghost one_cell_each: { vec-len cells ≡ styles * vec-len starts },
 }

@@ -1,3 +1,4 @@
+pub mod Limits
 pub mod Sums
 pub mod Positions
 pub mod Places

@@ -2,6 +2,7 @@
 use Prim.Native.Nat.{ℕ, _<_, _≤_}
 use mathlib.Core.List.{List, []}
 use lib.ListN.{length, getD}
+use Rattle.theory.specs.Limits.{style-limit, place-limit}
 use Rattle.theory.specs.Places.{Place, PlaceOn, Lets-through}
 
 -- two nets are the same if these are equal: k, the number of styles and, place by place, start values and cells
@@ -23,6 +24,6 @@ pub record Proper (N : Net) : Type 0 where
   pub order-from-two : 2 ≤ N .order
   pub order-to-nine : N .order ≤ 9
   pub some-style : 1 ≤ N .styles
-  pub few-styles : N .styles ≤ 16
-  pub few-places : length (N .places) ≤ 256
+  pub few-styles : N .styles ≤ style-limit
+  pub few-places : length (N .places) ≤ place-limit
   pub each-place : (i : ℕ) → i < length (N .places) → PlaceOn (N .order) (N .styles) (place N i)

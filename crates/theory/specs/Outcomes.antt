@@ -4,6 +4,7 @@ use mathlib.Core.List.{List, [], _∷_}
 use mathlib.Core.Path.{_≡_}
 use lib.ListN.{length, getD}
 use Rattle.std.specs.declared.option.Option.the-variants.{Some}
+use Rattle.theory.specs.Limits.{run-limit}
 use Rattle.theory.specs.Nets.{Net, place}
 use Rattle.theory.specs.Places.{cell, shows}
 use Rattle.theory.specs.Playing.{Accepts, FirstRefusing, Longest}
@@ -21,10 +22,6 @@ pub data SetOwes (N : Net) (run : List ℕ) (style : ℕ) : Outcome (Unit {0}) �
   -- else a style that a place refuses, by 7 with the first such place, what it shows and what it wants
   place-refuses : {i w : ℕ} → style < N .styles → FirstRefusing N run style i → cell (place N i) style .wanted ≡ Some w → SetOwes N run style (refused 7 (i ∷ shows (N .order) (place N i) (position (N .order) run) ∷ w ∷ []))
   accepted : Accepts N run style → SetOwes N run style (done tt)
-
--- the longest run that Try takes
-abbrev pub run-limit : ℕ
-run-limit = 4096
 
 -- step j is the first whose style is not below n
 pub record FirstUnknown (n : ℕ) (run : List ℕ) (j : ℕ) : Type 0 where
