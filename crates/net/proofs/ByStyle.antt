@@ -57,10 +57,10 @@ module _ {W : Type 0} (w : Ghosts W) (n : ℕ) (starts : List W) (cells : List (
         each i d h =
             let here : i < length starts = omega (arith, row-long, length-map (take (length starts) (drop (style * length starts) cells)) (cellOf w)) in
             let row : getD (map (cellOf w) (take (length starts) (drop (style * length starts) cells))) i d ≡ getD (map (cellOf w) cells) (style * length starts + i) d =
-                ap (λ xs. getD xs i d) (sym (take-map (cellOf w) (length starts) (drop (style * length starts) cells)))
-                ∙ getD-take (length starts) (map (cellOf w) (drop (style * length starts) cells)) i d here
-                ∙ ap (λ xs. getD xs i d) (sym (drop-map (cellOf w) (style * length starts) cells))
-                ∙ getD-drop (style * length starts) (map (cellOf w) cells) i d in
+            ap (λ xs. getD xs i d) (sym (take-map (cellOf w) (length starts) (drop (style * length starts) cells)))
+            ∙ getD-take (length starts) (map (cellOf w) (drop (style * length starts) cells)) i d here
+            ∙ ap (λ xs. getD xs i d) (sym (drop-map (cellOf w) (style * length starts) cells))
+            ∙ getD-drop (style * length starts) (map (cellOf w) cells) i d in
             let within : style * length starts + i < length (map (cellOf w) cells) = omega (arith, room n (length starts) style i (length cells) here below size, length-map cells (cellOf w)) in
             row
             ∙ getD-default (map (cellOf w) cells) (style * length starts + i) d idle within

@@ -29,18 +29,18 @@ module _ {X : Type 0} (before : List X) (width column : ℕ) (values : List X) w
   column-more rows x now within room reads so-far = record {
     long = length-set now (rows * width + column) x ∙ so-far .long;
     written = λ row d h.
-      ⊎-elim
-      (λ e. ap (λ z. getD (set now (rows * width + column) x) (z * width + column) d) e ∙ getD-set-same now (rows * width + column) x d room ∙ reads d ∙ ap (λ z. getD values z d) (sym e))
-      (λ ne.
+        ⊎-elim
+        (λ e. ap (λ z. getD (set now (rows * width + column) x) (z * width + column) d) e ∙ getD-set-same now (rows * width + column) x d room ∙ reads d ∙ ap (λ z. getD values z d) (sym e))
+        (λ ne.
         getD-set-other now (rows * width + column) (row * width + column) x d (λ e. ne (same-row width row column rows column within within e))
         ∙ so-far .written row d (omega arith))
-      (cases-eq row rows);
+        (cases-eq row rows);
     kept = λ row i d h apart.
-      getD-set-other now (rows * width + column) (row * width + i) x d
-      (λ e.
+        getD-set-other now (rows * width + column) (row * width + i) x d
+        (λ e.
         let r : row ≡ rows = same-row width row i rows column h within e in
         apart (omega arith) (same-column width row i rows column h within e))
-      ∙ so-far .kept row i d h (λ below. apart (omega arith));
+        ∙ so-far .kept row i d h (λ below. apart (omega arith));
   }
 
 -- an element, wherever a list has one
@@ -58,13 +58,13 @@ pub column-mapped : {X Y : Type 0} (f : X → Y) (before : List X) (width column
 column-mapped f before width column values after within rows so = record {
   long = length-map after f ∙ so .long ∙ sym (length-map before f);
   written = λ row d h.
-    let room = mul-add-lt row width column (length values) h within in
-    mapped-same f after values (row * width + column) row d (omega (arith, so .long)) h (λ x. so .written row x h);
+      let room = mul-add-lt row width column (length values) h within in
+      mapped-same f after values (row * width + column) row d (omega (arith, so .long)) h (λ x. so .written row x h);
   kept = λ row i d h apart.
-    ⊎-elim
-    (λ room. mapped-same f after before (row * width + i) (row * width + i) d (omega (arith, so .long)) room (λ x. so .kept row i x h apart))
-    (λ past.
+      ⊎-elim
+      (λ room. mapped-same f after before (row * width + i) (row * width + i) d (omega (arith, so .long)) room (λ x. so .kept row i x h apart))
+      (λ past.
       getD-past (map f after) (row * width + i) d (omega (arith, length-map after f, so .long))
       ∙ sym (getD-past (map f before) (row * width + i) d (omega (arith, length-map before f))))
-    (cases-lt (row * width + i) (length before));
+      (cases-lt (row * width + i) (length before));
 }

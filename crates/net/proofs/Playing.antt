@@ -72,10 +72,10 @@ module _ (M : N.Net) (run : List ℕ) (style : ℕ) (cells : List P.Cell) (value
       let showing-is : q .shown ≡ P.shows (M .order) (N.place M i) (position (M .order) run) = first .showing ∙ value-is i within in
       let refuses : RefusesAfter M run style i = subst₂ P.Unwanted (sym wanting) showing-is (first .differing) in
       let place-first : FirstRefusing M run style i = record {
-            within = within;
-            refuses = refuses;
-            none-before = λ j h refuses-j. first .none-before j h (row-refuses j (omega arith) refuses-j);
-          } in
+        within = within;
+        refuses = refuses;
+        none-before = λ j h refuses-j. first .none-before j h (row-refuses j (omega arith) refuses-j);
+      } in
       subst (λ v. SetOwes M run style (refused 7 (i ∷ v ∷ q .wanted ∷ []))) (sym showing-is) (place-refuses known place-first wanting)
 
   -- after a turn the values are those of the run that is one style longer
@@ -104,8 +104,8 @@ module _ (M : N.Net) (style : ℕ) (cells : List P.Cell) (values : List ℕ) (ro
   none-enabled none = record {
     is-transition = known;
     at-each-place = λ p h.
-      meets (M .order) (P.cell (N.place M p) style .wanted) (getD values p 0) (wanted-below p h)
-      (λ unwanted. none p (omega (arith, row-count M style cells row)) (subst (λ c. P.Unwanted (c .wanted) (getD values p 0)) (sym (cell-is M style cells row p h)) unwanted));
+        meets (M .order) (P.cell (N.place M p) style .wanted) (getD values p 0) (wanted-below p h)
+        (λ unwanted. none p (omega (arith, row-count M style cells row)) (subst (λ c. P.Unwanted (c .wanted) (getD values p 0)) (sym (cell-is M style cells row p h)) unwanted));
   }
 
   pub enabled-none : Enabled (test-and-flip M) (λ p. getD values p 0) style → NoneRefuses cells values (length cells)
@@ -118,7 +118,7 @@ module _ (M : N.Net) (style : ℕ) (cells : List P.Cell) (values : List ℕ) (ro
   turned-leads none after turned = record {
     enabled = none-enabled none;
     moved = λ p h.
-      turned .turned p (omega (arith, row-count M style cells row)) ∙ ap (λ c. (getD values p 0 + c .turn) % M .order) (cell-is M style cells row p h);
+        turned .turned p (omega (arith, row-count M style cells row)) ∙ ap (λ c. (getD values p 0 + c .turn) % M .order) (cell-is M style cells row p h);
   }
 
   -- a place that refuses does not let the transition be enabled

@@ -55,7 +55,7 @@ module _ {W : Type 0} (w : Ghosts W) where
       one-cell-each = length-map-counting (cellAt w starts cells i) 0 n;
       start-below = number-below starts i;
       cells-below = λ style h.
-        subst (CellOn (w .order)) (sym (getD-map-counting (cellAt w starts cells i) 0 n style style idle h (omega arith))) (cell-below cells _);
+          subst (CellOn (w .order)) (sym (getD-map-counting (cellAt w starts cells i) 0 n style style idle h (omega arith))) (cell-below cells _);
     }
 
     pub proper : (net : Net W) → Proper (view w net)
@@ -68,5 +68,5 @@ module _ {W : Type 0} (w : Ghosts W) where
           few-styles = net .«few_styles»;
           few-places = omega (arith, net .«few_places»);
           each-place = λ i h.
-            subst (PlaceOn (w .order) (net .styles)) (sym (laid-place w (net .styles) (vec-items (net .starts)) (vec-items (net .cells)) i (omega (arith, net .starts .ok .0)))) (place-good (net .styles) (vec-items (net .starts)) (vec-items (net .cells)) i);
+              subst (PlaceOn (w .order) (net .styles)) (sym (laid-place w (net .styles) (vec-items (net .starts)) (vec-items (net .cells)) i (omega (arith, net .starts .ok .0)))) (place-good (net .styles) (vec-items (net .starts)) (vec-items (net .cells)) i);
         }

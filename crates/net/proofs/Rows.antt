@@ -24,15 +24,15 @@ pub turned-more : (k : ℕ) (cells : List Cell) (before now : List ℕ) (i v : �
 turned-more k cells before now i v h value so-far = record {
   long = length-set now i v ∙ so-far .long;
   turned = λ j below.
-    ⊎-elim
-    (λ e.
+      ⊎-elim
+      (λ e.
       ap (λ z. getD (set now i v) z 0) e ∙ getD-set-same now i v 0 h ∙ value
       ∙ ap (λ z. (z + getD cells i idle .turn) % k) (so-far .kept i (λ never. omega arith))
       ∙ ap (λ z. (getD before z 0 + getD cells z idle .turn) % k) (sym e))
-    (λ ne. getD-set-other now i j v 0 ne ∙ so-far .turned j (omega arith))
-    (cases-eq j i);
+      (λ ne. getD-set-other now i j v 0 ne ∙ so-far .turned j (omega arith))
+      (cases-eq j i);
   kept = λ j past.
-    getD-set-other now i j v 0 (λ e. past (omega arith)) ∙ so-far .kept j (λ below. past (omega arith));
+      getD-set-other now i j v 0 (λ e. past (omega arith)) ∙ so-far .kept j (λ below. past (omega arith));
 }
 
 -- what holds of an option by its cases, once the case is known

@@ -48,21 +48,21 @@ module _ {W : Type 0} (w : Ghosts W) (net : Net W) (start : List W) (run : List 
         let leads = turned-leads (view w net) style cells (map (w .number) now) row proper below known none (map (w .number) next) turned in
         record {
           stands = λ before so.
-            let so-now = going .stands before so in
-            subst (Stands w net next) (append-assoc before (take steps run) (style ∷ []) ∙ ap (λ xs. before ++ xs) (sym longer))
-            (stands-next w net now next (before ++ take steps run) style
+              let so-now = going .stands before so in
+              subst (Stands w net next) (append-assoc before (take steps run) (style ∷ []) ∙ ap (λ xs. before ++ xs) (sym longer))
+              (stands-next w net now next (before ++ take steps run) style
               (row-accepts (view w net) (before ++ take steps run) style cells (map (w .number) now) row (so-now .showing) known none)
               so-now
               (row-turned (view w net) (before ++ take steps run) style cells (map (w .number) now) row (so-now .showing) proper known (map (w .number) next) turned));
           fires =
-            subst (Fires (test-and-flip (view w net)) (marks w start)) (sym longer)
-            (fires-push (test-and-flip (view w net)) (marks w start) (take steps run) style (going .fires)
+              subst (Fires (test-and-flip (view w net)) (marks w start)) (sym longer)
+              (fires-push (test-and-flip (view w net)) (marks w start) (take steps run) style (going .fires)
               (enabled-same (test-and-flip (view w net)) (marks w now) _ style (going .marking) (leads .enabled)));
           marking = λ p h.
-            leads .moved p h
-            ∙ ap (λ v. (v + test-and-flip (view w net) .c p style) % w .order) (going .marking p h)
-            ∙ ap (λ m. m p) (sym (after-push (test-and-flip (view w net)) (marks w start) (take steps run) style))
-            ∙ ap (λ ts. after (test-and-flip (view w net)) (marks w start) ts p) (sym longer);
+              leads .moved p h
+              ∙ ap (λ v. (v + test-and-flip (view w net) .c p style) % w .order) (going .marking p h)
+              ∙ ap (λ m. m p) (sym (after-push (test-and-flip (view w net)) (marks w start) (take steps run) style))
+              ∙ ap (λ ts. after (test-and-flip (view w net)) (marks w start) ts p) (sym longer);
         }
 
     -- a place that refuses ends it
@@ -74,7 +74,7 @@ module _ {W : Type 0} (w : Ghosts W) (net : Net W) (start : List W) (run : List 
             within = omega arith;
             accepted = so-now .accepted;
             no-further = λ _ accepts.
-              owed-refusal (row-owes (view w net) (before ++ take steps run) (getD run steps 0) cells (map (w .number) now) row (so-now .showing) known q first) accepts;
+                owed-refusal (row-owes (view w net) (before ++ take steps run) (getD run steps 0) cells (map (w .number) now) row (so-now .showing) known q first) accepts;
           }
 
       pub stopped-firing : LongestFiring (test-and-flip (view w net)) (marks w start) run steps
@@ -82,8 +82,8 @@ module _ {W : Type 0} (w : Ghosts W) (net : Net W) (start : List W) (run : List 
         within = omega arith;
         fires = going .fires;
         no-further = λ _ on.
-          refusing-disables (view w net) (getD run steps 0) cells (map (w .number) now) row proper below known q first
-          (enabled-same (test-and-flip (view w net)) _ (marks w now) (getD run steps 0) (λ p h. sym (going .marking p h))
+            refusing-disables (view w net) (getD run steps 0) cells (map (w .number) now) row proper below known q first
+            (enabled-same (test-and-flip (view w net)) _ (marks w now) (getD run steps 0) (λ p h. sym (going .marking p h))
             (fires-last (test-and-flip (view w net)) (marks w start) (take steps run) (getD run steps 0) (subst (Fires (test-and-flip (view w net)) (marks w start)) longer on)));
       }
 

@@ -55,7 +55,7 @@ module _ {W : Type 0} (w : Ghosts W) where
       let cell : (j : ℕ) → getD (map (cellOf w) (replicate (n * p) c)) j idle ≡ idle = λ j. ap (λ xs. getD xs j idle) cells ∙ getD-equal (n * p) j idle in
       ap (λ ps. record { order = w .order; styles = n; places = ps })
       (constant (placeAt w n (replicate p z) (replicate (n * p) c)) (length (replicate p z)) (record { start = 0; cells = replicate n idle })
-        (λ i h. ap₂ (λ s cs. record { start = s; cells = cs }) (start i) (constant (cellAt w (replicate p z) (replicate (n * p) c) i) n idle (λ t _. cell (t * length (replicate p z) + i))))
+      (λ i h. ap₂ (λ s cs. record { start = s; cells = cs }) (start i) (constant (cellAt w (replicate p z) (replicate (n * p) c) i) n idle (λ t _. cell (t * length (replicate p z) + i))))
       ∙ ap (λ m. replicate m (record { start = 0; cells = replicate n idle })) (length-replicate p z))
 
   pub put-laid : (n : ℕ) (starts : List W) (cells after : List (Cell W)) (i : ℕ) (start : W) (values : List (Cell W)) → i < length starts → length values ≡ n → length cells ≡ n * length starts → ColumnWritten cells (length starts) i values (length values) after → laidOut w n (set starts i start) after ≡ with-place (laidOut w n starts cells) i (record { start = w .number start; cells = map (cellOf w) values })
@@ -106,9 +106,9 @@ module _ {W : Type 0} (w : Ghosts W) where
           let room : i < length (map (placeAt w n starts cells) (counting 0 (length starts))) = omega (arith, laid-places n starts cells) in
           ⊎-elim
           (λ e.
-            left ∙ ap (placeAt w n (set starts i start) after) e ∙ here
-            ∙ sym (ap (λ z. getD (set (map (placeAt w n starts cells) (counting 0 (length starts))) i (record { start = w .number start; cells = map (cellOf w) values })) z d) e ∙ getD-set-same (map (placeAt w n starts cells) (counting 0 (length starts))) i _ d room))
+          left ∙ ap (placeAt w n (set starts i start) after) e ∙ here
+          ∙ sym (ap (λ z. getD (set (map (placeAt w n starts cells) (counting 0 (length starts))) i (record { start = w .number start; cells = map (cellOf w) values })) z d) e ∙ getD-set-same (map (placeAt w n starts cells) (counting 0 (length starts))) i _ d room))
           (λ ne.
-            left ∙ there j below ne
-            ∙ sym (getD-set-other (map (placeAt w n starts cells) (counting 0 (length starts))) i j _ d ne ∙ getD-map-counting (placeAt w n starts cells) 0 (length starts) j j d below (omega arith)))
+          left ∙ there j below ne
+          ∙ sym (getD-set-other (map (placeAt w n starts cells) (counting 0 (length starts))) i j _ d ne ∙ getD-map-counting (placeAt w n starts cells) 0 (length starts) j j d below (omega arith)))
           (cases-eq j i)

@@ -37,20 +37,8 @@ impl Cell<Two> {
         match self.wanted {
             None if turns => Arc::Complement,
             None => Arc::NoArc,
-            Some(wanted) if wanted.digit() == 1 => {
-                if turns {
-                    Arc::Empty
-                } else {
-                    Arc::TestOne
-                }
-            }
-            Some(_) => {
-                if turns {
-                    Arc::Fill
-                } else {
-                    Arc::TestZero
-                }
-            }
+            Some(wanted) if wanted.digit() == 1 => { if turns { Arc::Empty } else { Arc::TestOne } }
+            Some(_) => { if turns { Arc::Fill } else { Arc::TestZero } }
         }
     }
 }

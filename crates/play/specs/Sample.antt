@@ -20,8 +20,8 @@ sample = record {
   order = 2;
   styles = 3;
   places =
-    from-zero (tested 0 1 ∷ tested 1 1 ∷ untested 0 ∷ [])
-    ∷ from-zero (tested 0 0 ∷ tested 0 0 ∷ untested 1 ∷ [])
-    ∷ from-zero (untested 0 ∷ untested 0 ∷ tested 1 0 ∷ [])
-    ∷ [];
+      from-zero (tested 0 1 ∷ tested 1 1 ∷ untested 0 ∷ [])
+      ∷ from-zero (tested 0 0 ∷ tested 0 0 ∷ untested 1 ∷ [])
+      ∷ from-zero (untested 0 ∷ untested 0 ∷ tested 1 0 ∷ [])
+      ∷ [];
 }

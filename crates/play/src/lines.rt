@@ -23,13 +23,20 @@ fn refusal_line(heap: Global, word: &str, refusal: SetRefusal) -> Result<String,
                 shown,
                 wanted,
             } = refusing;
-            format!(heap, "{word}: refused, place {place} shows {shown} and wants {wanted}")
+            format!(
+                heap,
+                "{word}: refused, place {place} shows {shown} and wants {wanted}"
+            )
         }
     }
 }
 
 // What Set answered for a word.
-pub fn answer_line(heap: Global, word: &str, answer: Result<(), SetRefusal>) -> Result<String, AllocError>
+pub fn answer_line(
+    heap: Global,
+    word: &str,
+    answer: Result<(), SetRefusal>,
+) -> Result<String, AllocError>
     ensures says_what_set_answered { λ r. ⌜ made r (λ s. string-bytes s ≡ answer-bytes (now (word .entry)) answer) ⌝ }
 {
     match answer {

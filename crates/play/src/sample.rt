@@ -55,8 +55,16 @@ pub fn sample_net(heap: Global) -> Result<Net<Two>, SampleError>
 {
     let zero = Two::from_digit(0);
     let mut net = Net::idle(heap, 3, 3)?;
-    net.put_place(0, zero, &[cell(Some(0), 1), cell(Some(1), 1), cell(None, 0)])?;
-    net.put_place(1, zero, &[cell(Some(0), 0), cell(Some(0), 0), cell(None, 1)])?;
+    net.put_place(
+        0,
+        zero,
+        &[cell(Some(0), 1), cell(Some(1), 1), cell(None, 0)],
+    )?;
+    net.put_place(
+        1,
+        zero,
+        &[cell(Some(0), 0), cell(Some(0), 0), cell(None, 1)],
+    )?;
     net.put_place(2, zero, &[cell(None, 0), cell(None, 0), cell(Some(1), 0)])?;
     Ok(net)
 }

@@ -28,11 +28,11 @@ difference-zero k v (suc w) hv hw e =
     let kept : (k - suc w) % k ≡ k - suc w = mod-eq-of-lt (omega arith) in
     ⊎-elim
     (λ low.
-      let small : (1 * v + (k - suc w) % k) % k ≡ v + (k - suc w) = ap (λ z. z % k) (omega arith) ∙ mod-eq-of-lt (omega arith) in
-      omega arith)
+    let small : (1 * v + (k - suc w) % k) % k ≡ v + (k - suc w) = ap (λ z. z % k) (omega arith) ∙ mod-eq-of-lt (omega arith) in
+    omega arith)
     (λ high.
-      let small : (1 * v + (k - suc w) % k) % k ≡ v - suc w = ap (λ z. z % k) (omega arith) ∙ mod-eq-sub-mod {n = v + (k - suc w)} {m = k} (omega arith) ∙ ap (λ z. z % k) (omega arith) ∙ mod-eq-of-lt (omega arith) in
-      omega arith)
+    let small : (1 * v + (k - suc w) % k) % k ≡ v - suc w = ap (λ z. z % k) (omega arith) ∙ mod-eq-sub-mod {n = v + (k - suc w)} {m = k} (omega arith) ∙ ap (λ z. z % k) (omega arith) ∙ mod-eq-of-lt (omega arith) in
+    omega arith)
     (cases-lt v (suc w))
 
 pub zero-difference : (k w : ℕ) → w < k → (1 * w + (k - w) % k) % k ≡ 0
@@ -71,14 +71,14 @@ module _ (N : Net) (proper : Proper N) where
   enabled m run style marks accepts = record {
     is-transition = accepts .known;
     at-each-place = λ p hp.
-      rw (marks p hp) (meets (N .order) (cell (place N p) style .wanted) _ (wanted-below p style hp (accepts .known)) (accepts .free p hp));
+        rw (marks p hp) (meets (N .order) (cell (place N p) style .wanted) _ (wanted-below p style hp (accepts .known)) (accepts .free p hp));
   }
 
   accepts : (m : Marking) (run : List ℕ) (style : ℕ) → Marks m run → Enabled (test-and-flip N) m style → Accepts N run style
   accepts m run style marks on = record {
     known = on .is-transition;
     free = λ p hp.
-      frees (N .order) (cell (place N p) style .wanted) _ (shown-below p _) (wanted-below p style hp (on .is-transition)) (rw (marks p hp) at (on .at-each-place p hp));
+        frees (N .order) (cell (place N p) style .wanted) _ (shown-below p _) (wanted-below p style hp (on .is-transition)) (rw (marks p hp) at (on .at-each-place p hp));
   }
 
   marks-next : (m : Marking) (run : List ℕ) (style : ℕ) → style < N .styles → Marks m run → Marks (fired (test-and-flip N) m style) (run ++ style ∷ [])
@@ -90,10 +90,11 @@ module _ (N : Net) (proper : Proper N) where
   fires : (before run : List ℕ) (m : Marking) → Marks m before → ((j : ℕ) → j < length run → Accepts N (before ++ take j run) (getD run j 0)) → Fires (test-and-flip N) m run
   fires before [] m marks all = tt
   fires before (s ∷ run) m marks all =
-      let first : Accepts N before s = subst (λ b. Accepts N b s) (append-nil before) (all 0 (omega arith)) in
-      (enabled m before s marks first,
-       fires (before ++ s ∷ []) run (fired (test-and-flip N) m s) (marks-next m before s (first .known) marks)
-       (λ j h. subst (λ b. Accepts N b (getD run j 0)) (sym (append-assoc before (s ∷ []) (take j run))) (all (suc j) (omega arith))))
+      let first : Accepts N before s = subst (λ b. Accepts N b s) (append-nil before) (all 0 (omega arith)) in (
+        enabled m before s marks first,
+        fires (before ++ s ∷ []) run (fired (test-and-flip N) m s) (marks-next m before s (first .known) marks)
+            (λ j h. subst (λ b. Accepts N b (getD run j 0)) (sym (append-assoc before (s ∷ []) (take j run))) (all (suc j) (omega arith))),
+      )
 
   fired-accepted : (before run : List ℕ) (m : Marking) → Marks m before → Fires (test-and-flip N) m run → (j : ℕ) → j < length run → Accepts N (before ++ take j run) (getD run j 0)
   fired-accepted before [] m marks on j h = absurd (omega arith)

@@ -27,7 +27,7 @@ low-bit : (n t menu : ℕ) → t < n → bit (menu + 2 ^ n) t ≡ bit menu t
 low-bit n t menu below =
     let j : ℕ = n - (t + 1) in
     let split : 2 ^ n ≡ 2 ^ j * 2 * 2 ^ t =
-        ap (λ z. 2 ^ z) (omega arith) ∙ pow-add 2 (j + 1) t ∙ ap (λ z. z * 2 ^ t) (pow-add 2 j 1) in
+    ap (λ z. 2 ^ z) (omega arith) ∙ pow-add 2 (j + 1) t ∙ ap (λ z. z * 2 ^ t) (pow-add 2 j 1) in
     ap (λ z. (menu + z) / 2 ^ t % 2) split
     ∙ ap (λ z. z % 2) (add-mul-div-right menu (2 ^ j * 2) {z = 2 ^ t} (pow-pos t))
     ∙ add-mul-mod-self-right (menu / 2 ^ t) (2 ^ j) 2
@@ -49,37 +49,37 @@ module _ (P : ℕ → Type 0) (n menu : ℕ) (so-far : Filled P n menu) where
   filled-set here = record {
     small = omega (arith, so-far .small, pow-add 2 n 1);
     only-these = λ t h on.
-      ⊎-elim
-      (λ e. subst P (sym e) here)
-      (λ ne. let below : t < n = omega arith in so-far .only-these t below (sym (low-bit n t menu below) ∙ on))
-      (cases-eq t n);
+        ⊎-elim
+        (λ e. subst P (sym e) here)
+        (λ ne. let below : t < n = omega arith in so-far .only-these t below (sym (low-bit n t menu below) ∙ on))
+        (cases-eq t n);
     all-these = λ t h holds.
-      ⊎-elim
-      (λ e. ap (bit (menu + 2 ^ n)) e ∙ top-bit n menu (so-far .small))
-      (λ ne. let below : t < n = omega arith in low-bit n t menu below ∙ so-far .all-these t below holds)
-      (cases-eq t n);
+        ⊎-elim
+        (λ e. ap (bit (menu + 2 ^ n)) e ∙ top-bit n menu (so-far .small))
+        (λ ne. let below : t < n = omega arith in low-bit n t menu below ∙ so-far .all-these t below holds)
+        (cases-eq t n);
   }
 
   pub filled-clear : (P n → ⊥) → Filled P (n + 1) menu
   filled-clear never = record {
     small = omega (arith, so-far .small, pow-add 2 n 1);
     only-these = λ t h on.
-      ⊎-elim
-      (λ e. absurd (omega (arith, past-bit n t menu (so-far .small) (omega arith))))
-      (λ ne. so-far .only-these t (omega arith) on)
-      (cases-eq t n);
+        ⊎-elim
+        (λ e. absurd (omega (arith, past-bit n t menu (so-far .small) (omega arith))))
+        (λ ne. so-far .only-these t (omega arith) on)
+        (cases-eq t n);
     all-these = λ t h holds.
-      ⊎-elim (λ e. absurd (never (subst P e holds))) (λ ne. so-far .all-these t (omega arith) holds) (cases-eq t n);
+        ⊎-elim (λ e. absurd (never (subst P e holds))) (λ ne. so-far .all-these t (omega arith) holds) (cases-eq t n);
   }
 
   -- a filled menu offers what is below n and of which P holds
   pub filled-offers : (Q : ℕ → Type 0) → ((t : ℕ) → t < n → P t → Q t) → ((t : ℕ) → Q t → t < n) → ((t : ℕ) → Q t → P t) → Offers Q menu
   filled-offers Q gives below takes = record {
     only-these = λ t on.
-      ⊎-elim
-      (λ low. gives t low (so-far .only-these t low on))
-      (λ past. absurd (omega (arith, past-bit n t menu (so-far .small) past)))
-      (cases-lt t n);
+        ⊎-elim
+        (λ low. gives t low (so-far .only-these t low on))
+        (λ past. absurd (omega (arith, past-bit n t menu (so-far .small) past)))
+        (cases-lt t n);
     all-these = λ t holds. so-far .all-these t (below t holds) (takes t holds);
   }
 

@@ -21,8 +21,8 @@ module _ (N : Net) (run : List ℕ) (style : ℕ) where
       ⊎-elim
       (λ below. subst₂ (Accepts N) (sym (take-append-le j run (style ∷ []) (omega arith))) (sym (getD-append-left run (style ∷ []) 0 j below)) (before j below))
       (λ past.
-        let last : length run ≡ j = omega arith in
-        subst₂ (Accepts N) (sym (take-at run (style ∷ []) j last)) (sym (getD-at run style [] 0 j last)) here)
+      let last : length run ≡ j = omega arith in
+      subst₂ (Accepts N) (sym (take-at run (style ∷ []) j last)) (sym (getD-at run style [] 0 j last)) here)
       (cases-lt j (length run))
 
   pub accepted-last : Accepted N (run ++ style ∷ []) → Accepts N run style

@@ -27,7 +27,7 @@ shows-next k p run style h =
     let n = length (p .cells) in
     let c : ℕ → ℕ = λ t. cell p t .turn in
     let pushed : sum n (λ t. occurs (run ++ style ∷ []) t * c t) ≡ sum n (λ t. (occurs run t + cond (eqb style t) 1 0) * c t) =
-        sum-same n _ _ (λ t _. ap (λ z. z * c t) (sumBy-push (λ s. cond (eqb s t) 1 0) run style)) in
+    sum-same n _ _ (λ t _. ap (λ z. z * c t) (sumBy-push (λ s. cond (eqb s t) 1 0) run style)) in
     let more = sum-more n style (occurs run) c h in
     whole k p (run ++ style ∷ [])
     ∙ ap (λ z. z % k) (omega arith)

@@ -45,10 +45,10 @@ sum-more zero s x c h = absurd (omega arith)
 sum-more (suc n) s x c h =
     ⊎-elim
     (λ e.
-      let hit : eqb s n ≡ true = eq-eqb s n e in
-      let turn : c s ≡ c n = ap c e in
-      rw hit (omega (arith, past n s x c (omega arith))))
+    let hit : eqb s n ≡ true = eq-eqb s n e in
+    let turn : c s ≡ c n = ap c e in
+    rw hit (omega (arith, past n s x c (omega arith))))
     (λ ne.
-      let miss : eqb s n ≡ false = ne-eqb s n ne in
-      rw miss (omega (arith, sum-more n s x c (omega arith))))
+    let miss : eqb s n ≡ false = ne-eqb s n ne in
+    rw miss (omega (arith, sum-more n s x c (omega arith))))
     (cases-eq s n)

@@ -28,11 +28,15 @@ pub impl Wheel for Four as FourTurns {
     }
 
     fn turn(self, by: Four) -> Four {
-        Four { value: (self.value + by.value) % 4 }
+        Four {
+            value: (self.value + by.value) % 4,
+        }
     }
 
     fn turn_back(self, by: Four) -> Four {
-        Four { value: (self.value + (4 - by.value)) % 4 }
+        Four {
+            value: (self.value + (4 - by.value)) % 4,
+        }
     }
 
     fn same(self, other: Four) -> bool {

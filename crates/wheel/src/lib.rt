@@ -2,9 +2,8 @@
 pub mod dividing;
 pub mod four;
 pub mod orders;
+#[cfg(test)]
+mod tests;
 pub mod three;
 pub mod turning;
 pub mod two;
-
-#[cfg(test)]
-mod tests;

@@ -1,9 +1,9 @@
 use crate::dividing::DividingWheel;
+use crate::four::Four;
 use crate::four::FourTurns;
 use crate::three::Three;
 use crate::three::ThreeDivides;
 use crate::three::ThreeTurns;
-use crate::four::Four;
 use crate::turning::Wheel;
 use crate::two::Two;
 use crate::two::TwoDivides;

@@ -68,10 +68,12 @@ pub impl Wheel for Three as ThreeTurns {
 
 pub impl DividingWheel for Three as ThreeDivides {
     fn times(self, by: Three) -> Three {
-        Three { value: self.value * by.value }
+        Three {
+            value: self.value * by.value,
+        }
     }
 
     fn partner(self) -> Three {
-        self
+        Three { value: self.value }
     }
 }

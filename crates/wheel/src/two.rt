@@ -22,7 +22,9 @@ pub impl Wheel for Two as TwoTurns {
     }
 
     fn from_digit(digit: u8) -> Two {
-        Two { bit: digit % 2 == 1 }
+        Two {
+            bit: digit % 2 == 1,
+        }
     }
 
     fn digit(self) -> u8 {
@@ -30,11 +32,13 @@ pub impl Wheel for Two as TwoTurns {
     }
 
     fn turn(self, by: Two) -> Two {
-        Two { bit: self.bit ^ by.bit }
+        Two {
+            bit: self.bit ^ by.bit,
+        }
     }
 
     fn turn_back(self, by: Two) -> Two {
-        Two { bit: self.bit ^ by.bit }
+        self.turn(by)
     }
 
     fn same(self, other: Two) -> bool {
@@ -44,10 +48,12 @@ pub impl Wheel for Two as TwoTurns {
 
 pub impl DividingWheel for Two as TwoDivides {
     fn times(self, by: Two) -> Two {
-        Two { bit: self.bit & by.bit }
+        Two {
+            bit: self.bit & by.bit,
+        }
     }
 
     fn partner(self) -> Two {
-        self
+        Two { bit: self.bit }
     }
 }

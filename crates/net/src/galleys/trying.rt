@@ -74,7 +74,9 @@ impl<W: Wheel> Galley<'_, W> {
         if let Some(step) = first_unknown(run, self.net.styles()) {
             return Err(TryRefusal::UnknownStyle(step));
         }
-        self.saved.as_mut_slice().copy_from_slice(self.shown.as_slice());
+        self.saved
+            .as_mut_slice()
+            .copy_from_slice(self.shown.as_slice());
         Ok(longest_prefix(self.net, &mut self.shown, self.saved.as_slice(), run))
     }
 }

@@ -14,10 +14,10 @@ returns-in-Continue-push-str-2 c =
     let line = string-bytes (c .args .line .now) in
     record {
       adds-what-is-offered =
-        c .in-Continue-push-str-2 .ensures tt .bytes
-        ∙ ap (λ bytes. bytes ++ name) (c .in-Continue-push-str .ensures tt .bytes)
-        ∙ append-assoc line (codes " ") name
-        ∙ ap (λ bytes. line ++ bytes) (sym (cond-true (eqb (bit (c .args .menu) (c .args .style)) 1) (codes " " ++ name) _ (eq-eqb _ 1 (c .if-menu-style-eq1 .taken))));
+          c .in-Continue-push-str-2 .ensures tt .bytes
+          ∙ ap (λ bytes. bytes ++ name) (c .in-Continue-push-str .ensures tt .bytes)
+          ∙ append-assoc line (codes " ") name
+          ∙ ap (λ bytes. line ++ bytes) (sym (cond-true (eqb (bit (c .args .menu) (c .args .style)) 1) (codes " " ++ name) _ (eq-eqb _ 1 (c .if-menu-style-eq1 .taken))));
     }
 
 pub returns-else-menu-style-eq1 : need.returns-else-menu-style-eq1
@@ -25,6 +25,6 @@ returns-else-menu-style-eq1 c =
     let line = string-bytes (c .args .line .now) in
     record {
       adds-what-is-offered =
-        sym (append-nil line)
-        ∙ ap (λ bytes. line ++ bytes) (sym (cond-false (eqb (bit (c .args .menu) (c .args .style)) 1) (codes " " ++ c .args .name .now) _ (ne-eqb _ 1 (c .if-menu-style-eq1 .left))));
+          sym (append-nil line)
+          ∙ ap (λ bytes. line ++ bytes) (sym (cond-false (eqb (bit (c .args .menu) (c .args .style)) 1) (codes " " ++ c .args .name .now) _ (ne-eqb _ 1 (c .if-menu-style-eq1 .left))));
     }

@@ -33,9 +33,10 @@ loop-place-again g c =
     let within : i < length (vec-items shown) = omega (arith, c .cells-for-cells .ensures .as-many-as-places, c .args .self .now .«one_value_each», shown .ok .0) in
     let here = read-mapped (cellOf w) cells i (c .index-cells-place .result) idle (omega arith) (c .index-cells-place .is) in
     let value = read-mapped (w .number) (vec-items shown) i (c .index .result .now) 0 within (c .index .ensures) in
-    let not-missed = none-case (c .missed .result) _ _ (c .missed .ensures .missed-exactly-where-unwanted) (sym (c .if-is-some .ensures tt)) in
-    (omega arith,
-     below-more _ _ (c .loop-place .inv .1) (λ refuses. not-missed (subst₂ Unwanted (ap (λ x. x .wanted) here) value refuses)))
+    let not-missed = none-case (c .missed .result) _ _ (c .missed .ensures .missed-exactly-where-unwanted) (sym (c .if-is-some .ensures tt)) in (
+      omega arith,
+      below-more _ _ (c .loop-place .inv .1) (λ refuses. not-missed (subst₂ Unwanted (ap (λ x. x .wanted) here) value refuses)),
+    )
 
 -- where the search through the places ended at none, the style is free
 free : (g : given.Over) (c : need.Joined-is-none g) → isSome (c .if-place-cells .refusing) ≡ false → Free (netOf (g .W·Wheel) (c .args .self .now)) (map (g .W·Wheel .number) (vec-items (c .args .self .now .shown))) (c .loop-style .style)
@@ -45,10 +46,10 @@ free g c none =
     let row = c .cells-for-cells .ensures .one-for-each-place in
     let cells = c .cells-for-cells .result .now in
     elim (c .if-place-cells .came) [
-      then-place-cells v ↦
-        λ i h. subst (λ cs. RefusesAt cs values i → ⊥) row
+      | then-place-cells v ↦
+          λ i h. subst (λ cs. RefusesAt cs values i → ⊥) row
           (c .loop-place .inv .1 i (omega (arith, v .if-place-cells .taken, row-count (netOf w (c .args .self .now)) (c .loop-style .style) (map (cellOf w) cells) row, length-map cells (cellOf w))))
-    | else-place-cells·then-is-some v ↦ absurd (false≢true (sym none ∙ ap isSome (v .refusing-is)))
+      | else-place-cells·then-is-some v ↦ absurd (false≢true (sym none ∙ ap isSome (v .refusing-is)))
     ]
 
 -- where it ended at a place, that place refuses
@@ -63,17 +64,17 @@ refused g c some is-free =
     let i = c .loop-place .place in
     let count = row-count net (c .loop-style .style) (map (cellOf w) cells) row in
     elim (c .if-place-cells .came) [
-      then-place-cells v ↦ false≢true (sym (ap isSome (v .refusing-is)) ∙ some)
-    | else-place-cells·then-is-some v ↦
-        let in-row : i < length cells = omega (arith, v .if-place-cells .left) in
-        let within : i < length (vec-items shown) = omega (arith, c .cells-for-cells .ensures .as-many-as-places, c .args .self .now .«one_value_each», shown .ok .0) in
-        let here = read-mapped (cellOf w) cells i (v .index-cells-place .result) idle in-row (v .index-cells-place .is) in
-        let value = read-mapped (w .number) (vec-items shown) i (v .index .result .now) 0 within (v .index .ensures) in
-        let missed = some-case (v .missed .result) _ _ (v .missed .ensures .missed-exactly-where-unwanted) (sym (v .if-is-some .ensures tt)) in
-        let unwanted : Unwanted (cellOf w (v .index-cells-place .result) .wanted) (w .number (v .index .result .now)) =
-            subst (λ o. Unwanted (mapped (w .number) o) (w .number (v .index .result .now))) (sym (missed .1 .0)) (missed .1 .1) in
-        is-free i (omega (arith, length-map cells (cellOf w)))
-        (subst (λ cs. RefusesAt cs values i) row (subst₂ Unwanted (ap (λ x. x .wanted) (sym here)) (sym value) unwanted))
+      | then-place-cells v ↦ false≢true (sym (ap isSome (v .refusing-is)) ∙ some)
+      | else-place-cells·then-is-some v ↦
+          let in-row : i < length cells = omega (arith, v .if-place-cells .left) in
+          let within : i < length (vec-items shown) = omega (arith, c .cells-for-cells .ensures .as-many-as-places, c .args .self .now .«one_value_each», shown .ok .0) in
+          let here = read-mapped (cellOf w) cells i (v .index-cells-place .result) idle in-row (v .index-cells-place .is) in
+          let value = read-mapped (w .number) (vec-items shown) i (v .index .result .now) 0 within (v .index .ensures) in
+          let missed = some-case (v .missed .result) _ _ (v .missed .ensures .missed-exactly-where-unwanted) (sym (v .if-is-some .ensures tt)) in
+          let unwanted : Unwanted (cellOf w (v .index-cells-place .result) .wanted) (w .number (v .index .result .now)) =
+          subst (λ o. Unwanted (mapped (w .number) o) (w .number (v .index .result .now))) (sym (missed .1 .0)) (missed .1 .1) in
+          is-free i (omega (arith, length-map cells (cellOf w)))
+          (subst (λ cs. RefusesAt cs values i) row (subst₂ Unwanted (ap (λ x. x .wanted) (sym here)) (sym value) unwanted))
     ]
 
 pub loop-style-again : need.loop-style-again
@@ -85,10 +86,10 @@ loop-style-again g c =
     let P = Free (netOf w (c .args .self .now)) (map (w .number) (vec-items (c .args .self .now .shown))) in
     let few : style < 16 = omega (arith, c .args .self .now .net .now .«few_styles», c .styles-style-end .ensures .counts-the-styles, c .loop-style-test .taken) in
     elim (c .if-is-none .came) [
-      then-is-none v ↦
-        subst (Filled P (style + 1)) (sym (v .menu-is ∙ bit-added style menu few (so-far .small))) (filled-set P style menu so-far (free g c (v .if-is-none .ensures tt)))
-    | else-is-none v ↦
-        subst (Filled P (style + 1)) (sym (v .menu-is)) (filled-clear P style menu so-far (refused g c (v .if-is-none .ensures tt)))
+      | then-is-none v ↦
+          subst (Filled P (style + 1)) (sym (v .menu-is ∙ bit-added style menu few (so-far .small))) (filled-set P style menu so-far (free g c (v .if-is-none .ensures tt)))
+      | else-is-none v ↦
+          subst (Filled P (style + 1)) (sym (v .menu-is)) (filled-clear P style menu so-far (refused g c (v .if-is-none .ensures tt)))
     ]
 
 pub returns : need.returns
@@ -104,13 +105,13 @@ returns g c =
     let filled = subst (λ n. Filled (Free net values) n (c .loop-style .menu)) (sym count) (c .loop-style .inv) in
     record {
       offers-exactly-what-set-accepts = λ run so.
-        filled-offers (Free net values) (net .styles) (c .loop-style .menu) filled (Accepts net run)
-        (λ style h is-free. free-accepts net run style values (so .showing) h is-free)
-        (λ style accepts. accepts .known)
-        (λ style accepts. accepts-free net run style values (so .showing) accepts);
+          filled-offers (Free net values) (net .styles) (c .loop-style .menu) filled (Accepts net run)
+          (λ style h is-free. free-accepts net run style values (so .showing) h is-free)
+          (λ style accepts. accepts .known)
+          (λ style accepts. accepts-free net run style values (so .showing) accepts);
       offers-exactly-what-is-enabled =
-        filled-offers (Free net values) (net .styles) (c .loop-style .menu) filled (Enabled (test-and-flip net) (λ p. getD values p 0))
-        (λ style h is-free. free-enabled net style values proper below h is-free)
-        (λ style on. on .is-transition)
-        (λ style on. enabled-free net style values proper below (on .is-transition) on);
+          filled-offers (Free net values) (net .styles) (c .loop-style .menu) filled (Enabled (test-and-flip net) (λ p. getD values p 0))
+          (λ style h is-free. free-enabled net style values proper below h is-free)
+          (λ style on. on .is-transition)
+          (λ style on. enabled-free net style values proper below (on .is-transition) on);
     }

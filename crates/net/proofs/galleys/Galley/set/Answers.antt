@@ -35,9 +35,10 @@ returns-then-style-styles g c =
     record {
       answers-as-owed = λ run so. unknown-style (omega arith);
       has-set-the-run-after = λ run so. so;
-      accepts-exactly-what-fires = λ run so.
-        (λ e. absurd (false≢true e),
-         λ fires. absurd (owed-refusal {run = run} (unknown-style (omega arith)) (fires-accepts _ proper run (c .args .style) fires)));
+      accepts-exactly-what-fires = λ run so. (
+        λ e. absurd (false≢true e),
+        λ fires. absurd (owed-refusal {run = run} (unknown-style (omega arith)) (fires-accepts _ proper run (c .args .style) fires)),
+      );
       fires-in-the-shown-marking = (λ e. absurd (false≢true e), λ on. absurd (omega (arith, on .is-transition)));
       stands-on-the-same-net = refl;
       refused-calls-change-nothing = λ e. refl;
@@ -54,16 +55,18 @@ returns-in-Some g c =
     let row : cells ≡ map (λ p. cell p style) (net .places) = c .cells-for-cells .ensures .one-for-each-place ∙ ap (λ s. map (λ p. cell p s) (net .places)) (c .from-style .ensures) in
     let known : style < net .styles = omega arith in
     let first : FirstRefuses cells (map (w .number) (vec-items (galley .shown))) (c .in-Some .refusing) =
-        subst (λ values. FirstRefuses cells (map (w .number) values) (c .in-Some .refusing)) (c .as-slice .ensures .value) (c .in-Some .ensures tt .is-the-first) in
+    subst (λ values. FirstRefuses cells (map (w .number) values) (c .in-Some .refusing)) (c .as-slice .ensures .value) (c .in-Some .ensures tt .is-the-first) in
     record {
       answers-as-owed = λ run so. row-owes net run style cells (map (w .number) (vec-items (galley .shown))) row (so .showing) known (c .in-Some .refusing) first;
       has-set-the-run-after = λ run so. so;
-      accepts-exactly-what-fires = λ run so.
-        (λ e. absurd (false≢true e),
-         λ fires. absurd (owed-refusal (row-owes net run style cells (map (w .number) (vec-items (galley .shown))) row (so .showing) known (c .in-Some .refusing) first) (fires-accepts net proper run style fires)));
-      fires-in-the-shown-marking =
-        (λ e. absurd (false≢true e),
-         λ on. absurd (refusing-disables net style cells (map (w .number) (vec-items (galley .shown))) row proper (below g (vec-items (galley .shown))) known (c .in-Some .refusing) first on));
+      accepts-exactly-what-fires = λ run so. (
+        λ e. absurd (false≢true e),
+        λ fires. absurd (owed-refusal (row-owes net run style cells (map (w .number) (vec-items (galley .shown))) row (so .showing) known (c .in-Some .refusing) first) (fires-accepts net proper run style fires)),
+      );
+      fires-in-the-shown-marking = (
+        λ e. absurd (false≢true e),
+        λ on. absurd (refusing-disables net style cells (map (w .number) (vec-items (galley .shown))) row proper (below g (vec-items (galley .shown))) known (c .in-Some .refusing) first on),
+      );
       stands-on-the-same-net = refl;
       refused-calls-change-nothing = λ e. refl;
     }
@@ -81,21 +84,23 @@ returns-in-None g c =
     let known : style < net .styles = omega arith in
     let long : length (c .cells-for-cells .result .now) ≡ length cells = sym (length-map (c .cells-for-cells .result .now) (cellOf w)) in
     let none : NoneRefuses cells values (length cells) =
-        subst (NoneRefuses cells values) long
-        (subst (λ shown. NoneRefuses cells (map (w .number) shown) (length (c .cells-for-cells .result .now))) (c .as-slice .ensures .value) (c .in-None .ensures tt .is-the-first)) in
+    subst (NoneRefuses cells values) long
+    (subst (λ shown. NoneRefuses cells (map (w .number) shown) (length (c .cells-for-cells .result .now))) (c .as-slice .ensures .value) (c .in-None .ensures tt .is-the-first)) in
     let turned : Turned (w .order) cells values (length cells) (map (w .number) (vec-items (c .turn-all .last .shown))) =
-        subst (λ n. Turned (w .order) cells values n (map (w .number) (vec-items (c .turn-all .last .shown)))) long (c .turn-all .ensures .each-place-turns) in
+    subst (λ n. Turned (w .order) cells values n (map (w .number) (vec-items (c .turn-all .last .shown)))) long (c .turn-all .ensures .each-place-turns) in
     record {
       answers-as-owed = λ run so. accepted (row-accepts net run style cells values row (so .showing) known none);
       has-set-the-run-after = λ run so.
-        stands-next w (galley .net .now) (vec-items (galley .shown)) (vec-items (c .turn-all .last .shown)) run style (row-accepts net run style cells values row (so .showing) known none) so
-        (row-turned net run style cells values row (so .showing) proper known (map (w .number) (vec-items (c .turn-all .last .shown))) turned);
-      accepts-exactly-what-fires = λ run so.
-        (λ e. accepts-fires net proper run style (so .accepted) (row-accepts net run style cells values row (so .showing) known none),
-         λ fires. refl);
-      fires-in-the-shown-marking =
-        (λ e. turned-leads net style cells values row proper (below g (vec-items (galley .shown))) known none (map (w .number) (vec-items (c .turn-all .last .shown))) turned,
-         λ on. refl);
+          stands-next w (galley .net .now) (vec-items (galley .shown)) (vec-items (c .turn-all .last .shown)) run style (row-accepts net run style cells values row (so .showing) known none) so
+          (row-turned net run style cells values row (so .showing) proper known (map (w .number) (vec-items (c .turn-all .last .shown))) turned);
+      accepts-exactly-what-fires = λ run so. (
+        λ e. accepts-fires net proper run style (so .accepted) (row-accepts net run style cells values row (so .showing) known none),
+        λ fires. refl,
+      );
+      fires-in-the-shown-marking = (
+        λ e. turned-leads net style cells values row proper (below g (vec-items (galley .shown))) known none (map (w .number) (vec-items (c .turn-all .last .shown))) turned,
+        λ on. refl,
+      );
       stands-on-the-same-net = refl;
       refused-calls-change-nothing = λ e. absurd (false≢true e);
     }

@@ -12,8 +12,8 @@ returns g c =
     let net = c .args .net .now in
     record {
       has-set-the-empty-run =
-        subst (λ values. Stands w net values []) (sym (c .in-Continue-shown .ensures tt .copies-the-start-values))
-        (stands-fresh w net (proper w (laws .«at_least_two») (laws .«at_most_nine») (laws .«numbers_are_below_the_order») net));
+          subst (λ values. Stands w net values []) (sym (c .in-Continue-shown .ensures tt .copies-the-start-values))
+          (stands-fresh w net (proper w (laws .«at_least_two») (laws .«at_most_nine») (laws .«numbers_are_below_the_order») net));
       fails-only-for-want-of-memory = refl;
       stands-on-the-net = refl;
     }

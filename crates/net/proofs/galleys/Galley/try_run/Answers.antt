@@ -33,9 +33,9 @@ longest-prefix-requires g c κs =
     let copied = c .copy-from-slice .ensures .after ∙ c .as-slice .ensures .value in
     record {
       saved-are-the-shown =
-        c .as-slice-2 .ensures .value
-        ∙ refilled-is (galley .saved) (c .copy-from-slice .last .self) (ap length copied ∙ sym (galley .shown .ok .0) ∙ sym (galley .«room_to_save»))
-        ∙ copied;
+          c .as-slice-2 .ensures .value
+          ∙ refilled-is (galley .saved) (c .copy-from-slice .last .self) (ap length copied ∙ sym (galley .shown .ok .0) ∙ sym (galley .«room_to_save»))
+          ∙ copied;
       one-value-each = galley .«one_value_each»;
       styles-known = subst (λ n. Below n (c .args .run .now)) (c .styles .ensures .counts-the-styles) (c .in-rest .ensures tt .is-the-first);
     }

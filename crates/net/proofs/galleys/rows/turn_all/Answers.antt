@@ -18,10 +18,11 @@ loop-place-again g c =
     let i = c .loop-place .place in
     let within : i < length shown = omega (arith, c .loop-place .inv .1, c .loop-place .shown .ok .0) in
     let value : w .number (c .turn .result) ≡ (getD (map (w .number) shown) i 0 + getD (map (cellOf w) cells) i idle .turn) % w .order =
-        c .turn .ensures .stands-for-the-sum
-        ∙ ap₂ (λ x y. (x + y) % w .order)
-          (sym (read-mapped (w .number) shown i (c .index .result .now) 0 within (c .index .ensures)))
-          (ap (λ x. x .turn) (sym (read-mapped (cellOf w) cells i (c .index-cells-place .result) idle (c .loop-place-test .taken) (c .index-cells-place .is)))) in
-    (subst (Turned (w .order) (map (cellOf w) cells) (map (w .number) (vec-items (c .args .shown .now))) (i + 1)) (sym (map-set (w .number) shown i (c .turn .result)))
-      (turned-more (w .order) (map (cellOf w) cells) (map (w .number) (vec-items (c .args .shown .now))) (map (w .number) shown) i (w .number (c .turn .result)) (omega (arith, length-map shown (w .number))) value (c .loop-place .inv .0)),
-     c .loop-place .inv .1)
+    c .turn .ensures .stands-for-the-sum
+    ∙ ap₂ (λ x y. (x + y) % w .order)
+    (sym (read-mapped (w .number) shown i (c .index .result .now) 0 within (c .index .ensures)))
+    (ap (λ x. x .turn) (sym (read-mapped (cellOf w) cells i (c .index-cells-place .result) idle (c .loop-place-test .taken) (c .index-cells-place .is)))) in (
+      subst (Turned (w .order) (map (cellOf w) cells) (map (w .number) (vec-items (c .args .shown .now))) (i + 1)) (sym (map-set (w .number) shown i (c .turn .result)))
+          (turned-more (w .order) (map (cellOf w) cells) (map (w .number) (vec-items (c .args .shown .now))) (map (w .number) shown) i (w .number (c .turn .result)) (omega (arith, length-map shown (w .number))) value (c .loop-place .inv .0)),
+      c .loop-place .inv .1,
+    )

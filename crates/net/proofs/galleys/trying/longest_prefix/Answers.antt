@@ -21,9 +21,10 @@ use Rattle.net.proofs.galleys.trying.longest_prefix.Given as given
 use Rattle.net.proofs.galleys.trying.longest_prefix.Needs as need
 
 pub loop-step-holds : need.loop-step-holds
-loop-step-holds g c =
-    (subst (λ values. Going (g .W·Wheel) (c .args .net .now) (c .args .saved .now) values (c .args .run .now) 0) (c .pre .saved-are-the-shown) (going-none (g .W·Wheel) (c .args .net .now) (c .args .saved .now) (c .args .run .now)),
-     c .pre .one-value-each)
+loop-step-holds g c = (
+  subst (λ values. Going (g .W·Wheel) (c .args .net .now) (c .args .saved .now) values (c .args .run .now) 0) (c .pre .saved-are-the-shown) (going-none (g .W·Wheel) (c .args .net .now) (c .args .saved .now) (c .args .run .now)),
+  c .pre .one-value-each,
+)
 
 pub first-refusing-requires : need.first-refusing-requires
 first-refusing-requires g c κs = record {
@@ -63,13 +64,14 @@ loop-step-again g c =
     let row : cells ≡ map (λ p. cell p (getD run step 0)) (view w net .places) = c .cells-for-cells .ensures .one-for-each-place ∙ ap (λ s. map (λ p. cell p s) (view w net .places)) (c .from .ensures) in
     let long : length found ≡ length cells = sym (length-map found (cellOf w)) in
     let none : NoneRefuses cells (map (w .number) now) (length cells) =
-        subst (NoneRefuses cells (map (w .number) now)) long
-        (subst (λ shown. NoneRefuses cells (map (w .number) shown) (length found)) (c .as-slice .ensures .value)
-          (none-case (c .first-refusing .result) _ _ (c .first-refusing .ensures .is-the-first) (sym (c .if-is-some .ensures tt)))) in
+    subst (NoneRefuses cells (map (w .number) now)) long
+    (subst (λ shown. NoneRefuses cells (map (w .number) shown) (length found)) (c .as-slice .ensures .value)
+    (none-case (c .first-refusing .result) _ _ (c .first-refusing .ensures .is-the-first) (sym (c .if-is-some .ensures tt)))) in
     let turned : Turned (w .order) cells (map (w .number) now) (length cells) (map (w .number) next) =
-        subst (λ n. Turned (w .order) cells (map (w .number) now) n (map (w .number) next)) long (c .turn-all .ensures .each-place-turns) in
-    (going-more w net (c .args .saved .now) run now step (c .loop-step .inv .0) (c .loop-step-test .taken) cells row (good g net) (below g now) (c .pre .styles-known step (c .loop-step-test .taken)) next none turned,
-     c .turn-all .ensures .as-many-places-as-before ∙ c .loop-step .inv .1)
+    subst (λ n. Turned (w .order) cells (map (w .number) now) n (map (w .number) next)) long (c .turn-all .ensures .each-place-turns) in (
+      going-more w net (c .args .saved .now) run now step (c .loop-step .inv .0) (c .loop-step-test .taken) cells row (good g net) (below g now) (c .pre .styles-known step (c .loop-step-test .taken)) next none turned,
+      c .turn-all .ensures .as-many-places-as-before ∙ c .loop-step .inv .1,
+    )
 
 pub returns-then-is-some : need.returns-then-is-some
 returns-then-is-some g c =
@@ -87,11 +89,11 @@ returns-then-is-some g c =
       shows-again-what-it-showed = search needs;
       as-many-as-before = search needs;
       is-the-longest = λ before so.
-        stopped-longest w net (c .args .saved .now) run now step (c .loop-step .inv .0) (c .loop-step-test .taken) cells row (good g net) (below g now) known (found .0) first before
-        (subst (λ values. Stands w net values before) (sym (c .pre .saved-are-the-shown)) so);
+          stopped-longest w net (c .args .saved .now) run now step (c .loop-step .inv .0) (c .loop-step-test .taken) cells row (good g net) (below g now) known (found .0) first before
+          (subst (λ values. Stands w net values before) (sym (c .pre .saved-are-the-shown)) so);
       is-the-longest-to-fire =
-        subst (λ values. LongestFiring (test-and-flip (view w net)) (marks w values) run step) (c .pre .saved-are-the-shown)
-        (stopped-firing w net (c .args .saved .now) run now step (c .loop-step .inv .0) (c .loop-step-test .taken) cells row (good g net) (below g now) known (found .0) first);
+          subst (λ values. LongestFiring (test-and-flip (view w net)) (marks w values) run step) (c .pre .saved-are-the-shown)
+          (stopped-firing w net (c .args .saved .now) run now step (c .loop-step .inv .0) (c .loop-step-test .taken) cells row (good g net) (below g now) known (found .0) first);
     }
 
 pub returns : need.returns
@@ -107,5 +109,5 @@ returns g c =
       as-many-as-before = search needs;
       is-the-longest = λ before so. whole-longest w net (c .args .saved .now) run now whole before (subst (λ values. Stands w net values before) (sym (c .pre .saved-are-the-shown)) so);
       is-the-longest-to-fire =
-        subst (λ values. LongestFiring (test-and-flip (view w net)) (marks w values) run (length run)) (c .pre .saved-are-the-shown) (whole-firing w net (c .args .saved .now) run now whole);
+          subst (λ values. LongestFiring (test-and-flip (view w net)) (marks w values) run (length run)) (c .pre .saved-are-the-shown) (whole-firing w net (c .args .saved .now) run now whole);
     }

@@ -13,10 +13,10 @@ returns-then-place-places g c =
     let count = c .len-places .ensures ∙ places-counted (g .W·Wheel) (c .args .self .now) in
     record {
       is-the-cell = λ h.
-        elim (c .then-place-places .came) [
-          then-place-places·by·then-place-places w ↦ omega (arith, w .if-place-places .taken)
-        | then-place-places·by·else-place-places·then-style-self w ↦ omega (arith, w .if-style-self .taken)
-        ];
+          elim (c .then-place-places .came) [
+            | then-place-places·by·then-place-places w ↦ omega (arith, w .if-place-places .taken)
+            | then-place-places·by·else-place-places·then-style-self w ↦ omega (arith, w .if-style-self .taken)
+          ];
     }
 
 pub index-requires : need.index-requires

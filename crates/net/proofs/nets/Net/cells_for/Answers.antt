@@ -31,8 +31,8 @@ returns g c =
     let within = row-within w net style p all (c .pre .one-of-the-styles) (c .len-places .ensures) (c .deref .ensures .value) in
     record {
       one-for-each-place =
-        ap₂ (λ n d. map (cellOf w) (take n d)) cut (ap₂ drop (ap (λ z. style * z) e) (c .deref .ensures .value))
-        ∙ row-read w (net .styles) starts (vec-items (net .cells)) (cells-counted w net) style (c .pre .one-of-the-styles);
+          ap₂ (λ n d. map (cellOf w) (take n d)) cut (ap₂ drop (ap (λ z. style * z) e) (c .deref .ensures .value))
+          ∙ row-read w (net .styles) starts (vec-items (net .cells)) (cells-counted w net) style (c .pre .one-of-the-styles);
       as-many-as-places =
-        length-take-le _ (drop (style * p) all) (omega (arith, within, length-drop (style * p) all)) ∙ cut ∙ sym (net .starts .ok .0);
+          length-take-le _ (drop (style * p) all) (omega (arith, within, length-drop (style * p) all)) ∙ cut ∙ sym (net .starts .ok .0);
     }

@@ -8,6 +8,6 @@ returns g c =
     let copied = c .copy-from-slice .ensures .after in
     record {
       shows-what-was-saved =
-        refilled-is (c .args .self .shown .now) (c .copy-from-slice .last .self) (ap length copied ∙ c .pre .a-saved-value-for-each) ∙ copied;
+          refilled-is (c .args .self .shown .now) (c .copy-from-slice .last .self) (ap length copied ∙ c .pre .a-saved-value-for-each) ∙ copied;
       as-many-as-before = refl;
     }
