@@ -34,6 +34,20 @@ module _ {W : Type 0} (w : Ghosts W) (n : ℕ) (starts : List W) (cells : List (
   start-read i x h e =
       ap (w .number) e ∙ sym (getD-map (w .number) starts i x 0 h) ∙ sym (ap (λ p. p .start) (laid-place w n starts cells i h))
 
+  -- the start values in the order of the places
+  pub starts-read : map (w .number) starts ≡ map (λ p. p .start) (laidOut w n starts cells .places)
+  starts-read = same-lists _ _ long each
+    where
+      long : length (map (w .number) starts) ≡ length (map (λ p. p .start) (laidOut w n starts cells .places))
+      long = length-map starts (w .number) ∙ sym (length-map (laidOut w n starts cells .places) (λ p. p .start) ∙ laid-places w n starts cells)
+
+      each : (i d : ℕ) → i < length (map (w .number) starts) → getD (map (w .number) starts) i d ≡ getD (map (λ p. p .start) (laidOut w n starts cells .places)) i d
+      each i d h =
+          let within : i < length starts = omega (arith, length-map starts (w .number)) in
+          getD-default (map (w .number) starts) i d 0 h
+          ∙ sym (ap (λ p. p .start) (laid-place w n starts cells i within))
+          ∙ sym (getD-map (λ p. p .start) (laidOut w n starts cells .places) i (record { start = 0; cells = [] }) d (omega (arith, laid-places w n starts cells)))
+
   module _ (size : length cells ≡ n * length starts) where
     pub cell-read : (i style : ℕ) (x : Cell W) → i < length starts → style < n → x ≡ getD cells (style * length starts + i) x → cellOf w x ≡ P.cell (N.place (laidOut w n starts cells) i) style
     cell-read i style x h below e =

@@ -34,7 +34,7 @@ impl<W: Wheel> Cell<W> {
     }
 
     // The wanted value, where the place shows another and so refuses the style.
-    pub(crate) fn missed(self, shown: W) -> Option<W>
+    pub fn missed(self, shown: W) -> Option<W>
         ensures missed_exactly_where_unwanted { λ r. ⌜ BySome r (Unwanted (cellOf W·Wheel self .wanted) (W·Wheel .number shown) → ⊥) (λ wanted. (self .wanted ≡ Some wanted) × (W·Wheel .number shown ≡ W·Wheel .number wanted → ⊥)) ⌝ }
     {
         match self.wanted {

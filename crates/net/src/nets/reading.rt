@@ -1,6 +1,6 @@
 // Reading a net.
 ghost use Prim.Native.Nat.{_<_, _≤_};
-ghost use Rattle.net.specs.Views.{view, cellOf};
+ghost use Rattle.net.specs.Views.{view, cellOf, CellsFor, place-count};
 ghost use Rattle.std.specs.Of.Vec.{vec-items, vec-len};
 ghost use Rattle.std.specs.Options.{Cases as BySome};
 ghost use Rattle.std.specs.Vec.{made};
@@ -49,21 +49,22 @@ impl<W: Wheel> Net<W> {
         Some(self.cells[style * places + place])
     }
 
-    // The cells of all places for one style.
-    pub(crate) fn cells_for(&self, style: usize) -> &[Cell<W>]
-        requires one_of_the_styles { ⌜ style < view W·Wheel (now self) .styles ⌝ }
-        ensures one_for_each_place { λ r. ⌜ map (cellOf W·Wheel) (now r) ≡ map (λ p. cell-for p style) (view W·Wheel (now (self .entry)) .places) ⌝ }
-        ensures as_many_as_places { λ r. ⌜ length (now r) ≡ vec-len (now (self .entry) .starts) ⌝ }
+    // The cells of all places for one style, if there is such a style.
+    pub fn cells_for(&self, style: usize) -> Option<&[Cell<W>]>
+        ensures one_cell_for_each_place { λ r. ⌜ BySome r (view W·Wheel (now (self .entry)) .styles ≤ style) (λ cells. CellsFor W·Wheel (now (self .entry)) style (now cells)) ⌝ }
     {
+        if style >= self.styles {
+            return None;
+        }
         let places = self.starts.len();
         let from = style * places;
-        &self.cells[from..from + places]
+        Some(&self.cells[from..from + places])
     }
 
     // A copy of the start values.
-    pub(crate) fn start_values(&self, heap: Global) -> Result<Vec<W>, AllocError>
-        ensures copies_the_start_values { λ r. ⌜ made r (λ v. vec-items v ≡ vec-items (now (self .entry) .starts)) ⌝ }
-        ensures one_for_each_place { λ r. ⌜ made r (λ v. vec-len v ≡ vec-len (now (self .entry) .starts)) ⌝ }
+    pub fn start_values(&self, heap: Global) -> Result<Vec<W>, AllocError>
+        ensures copies_the_start_values { λ r. ⌜ made r (λ v. map (W·Wheel .number) (vec-items v) ≡ map (λ p. p .start) (view W·Wheel (now (self .entry)) .places)) ⌝ }
+        ensures one_for_each_place { λ r. ⌜ made r (λ v. vec-len v ≡ place-count (now (self .entry))) ⌝ }
     {
         Vec::from_slice(heap, &self.starts)
     }

@@ -12,11 +12,11 @@ use Rattle.net.proofs.nets.Net.cells_for.Needs as need
 
 pub offset-deref-from : need.offset-deref-from
 offset-deref-from g c =
-    omega (arith, row-within (g .W·Wheel) (c .args .self .now) (c .args .style) (c .len-places .result) (c .deref .result .now) (c .pre .one-of-the-styles) (c .len-places .ensures) (c .deref .ensures .value))
+    omega (arith, row-within (g .W·Wheel) (c .args .self .now) (c .args .style) (c .len-places .result) (c .deref .result .now) (omega arith) (c .len-places .ensures) (c .deref .ensures .value))
 
 pub part-result-end : need.part-result-end
 part-result-end g c =
-    row-within (g .W·Wheel) (c .args .self .now) (c .args .style) (c .len-places .result) (c .deref .result .now) (c .pre .one-of-the-styles) (c .len-places .ensures) (c .deref .ensures .value)
+    row-within (g .W·Wheel) (c .args .self .now) (c .args .style) (c .len-places .result) (c .deref .result .now) (omega arith) (c .len-places .ensures) (c .deref .ensures .value)
 
 pub returns : need.returns
 returns g c =
@@ -28,11 +28,14 @@ returns g c =
     let all = c .deref .result .now in
     let e : p ≡ length starts = c .len-places .ensures ∙ net .starts .ok .0 in
     let cut : (style * p + p) - style * p ≡ length starts = omega (arith, e) in
-    let within = row-within w net style p all (c .pre .one-of-the-styles) (c .len-places .ensures) (c .deref .ensures .value) in
+    let within = row-within w net style p all (omega arith) (c .len-places .ensures) (c .deref .ensures .value) in
     record {
-      one-for-each-place =
+      one-cell-for-each-place = record {
+        known = omega arith;
+        row =
           ap₂ (λ n d. map (cellOf w) (take n d)) cut (ap₂ drop (ap (λ z. style * z) e) (c .deref .ensures .value))
-          ∙ row-read w (net .styles) starts (vec-items (net .cells)) (cells-counted w net) style (c .pre .one-of-the-styles);
-      as-many-as-places =
+          ∙ row-read w (net .styles) starts (vec-items (net .cells)) (cells-counted w net) style (omega arith);
+        count =
           length-take-le _ (drop (style * p) all) (omega (arith, within, length-drop (style * p) all)) ∙ cut ∙ sym (net .starts .ok .0);
+      };
     }
