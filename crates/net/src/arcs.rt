@@ -10,7 +10,7 @@ use wheel::turning::Wheel;
 use wheel::two::Two;
 use wheel::two::TwoTurns;
 
-#[derive(Clone, Copy, Debug, PartialEq, Eq)]
+#[derive(Clone, Copy, Debug)]
 pub enum Arc {
     // Neither tests nor turns.
     NoArc,

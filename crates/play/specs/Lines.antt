@@ -6,8 +6,8 @@ use lib.Chars.{codes}
 use lib.Dec.{eqb}
 use Rattle.net.specs.declared.arcs.Arc.{Arc}
 use Rattle.net.specs.declared.arcs.Arc.the-variants.{NoArc, TestZero, TestOne, Complement, Fill, Empty}
-use Rattle.net.specs.declared.galleys.refusals.SetRefusal.{SetRefusal}
-use Rattle.net.specs.declared.galleys.refusals.SetRefusal.the-variants.{UnknownStyle, PlaceRefuses}
+use Rattle.galley.specs.declared.galleys.refusals.SetRefusal.{SetRefusal}
+use Rattle.galley.specs.declared.galleys.refusals.SetRefusal.the-variants.{UnknownStyle, PlaceRefuses}
 use Rattle.std.specs.Written.{decimal}
 use Rattle.std.specs.declared.result.Result.{Result}
 use Rattle.std.specs.declared.result.Result.the-variants.{Ok, Err}

@@ -5,9 +5,9 @@ ghost use Rattle.std.specs.Of.String.{string-bytes};
 ghost use Rattle.std.specs.Vec.{made};
 ghost use mathlib.Core.List.{_++_};
 ghost use mathlib.Core.Path.{_≡_};
+use galley::galleys::refusals::Refusing;
+use galley::galleys::refusals::SetRefusal;
 use net::arcs::Arc;
-use net::galleys::refusals::Refusing;
-use net::galleys::refusals::SetRefusal;
 use std::alloc::AllocError;
 use std::alloc::Global;
 

@@ -3,7 +3,7 @@ ghost use Rattle.galley.specs.declared.galleys.refusals.StandRefusal.the-varia
 ghost use mathlib.Core.Path.{_≡_};
 use std::alloc::AllocError;
 
-#[derive(Debug, PartialEq, Eq, Drop)]
+#[derive(Debug, Drop)]
 pub enum StandRefusal {
     OutOfMemory,
 }
@@ -17,21 +17,21 @@ pub impl From<AllocError> for StandRefusal as StandRefusalFromAlloc {
 }
 
 // A place that refuses a style, what it shows and what it wants.
-#[derive(Clone, Copy, Debug, PartialEq, Eq)]
+#[derive(Clone, Copy, Debug)]
 pub struct Refusing {
     pub place: usize,
     pub shown: u8,
     pub wanted: u8,
 }
 
-#[derive(Debug, PartialEq, Eq, Drop)]
+#[derive(Debug, Drop)]
 pub enum SetRefusal {
     // The style is not below the style count.
     UnknownStyle,
     PlaceRefuses(Refusing),
 }
 
-#[derive(Debug, PartialEq, Eq, Drop)]
+#[derive(Debug, Drop)]
 pub enum TryRefusal {
     // The length of the run, which is over 4,096.
     RunTooLong(usize),

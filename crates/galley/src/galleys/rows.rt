@@ -7,8 +7,8 @@ ghost use Rattle.std.specs.Options.{Cases as BySome};
 ghost use lib.ListN.{length};
 ghost use mathlib.Core.List.{map};
 ghost use mathlib.Core.Path.{_≡_};
-use net::cells::Cell;
 use crate::galleys::refusals::Refusing;
+use net::cells::Cell;
 use wheel::turning::Wheel;
 
 // The first place that refuses the style.

@@ -34,9 +34,10 @@ returns-in-rest g c =
     record {
       answers-as-owed = λ run so. unknown-style past;
       has-set-the-run-after = λ run so. so;
-      accepts-exactly-what-fires = λ run so.
-          (λ e. absurd (false≢true e),
-           λ fires. absurd (owed-refusal {run = run} (unknown-style past) (fires-accepts (netOf (g .W·Wheel) galley) (good g (galley .net .now)) run (c .args .style) fires)));
+      accepts-exactly-what-fires = λ run so. (
+        λ e. absurd (false≢true e),
+        λ fires. absurd (owed-refusal {run = run} (unknown-style past) (fires-accepts (netOf (g .W·Wheel) galley) (good g (galley .net .now)) run (c .args .style) fires)),
+      );
       fires-in-the-shown-marking = (λ e. absurd (false≢true e), λ on. absurd (omega (arith, on .is-transition, past)));
       stands-on-the-same-net = refl;
       refused-calls-change-nothing = λ e. refl;

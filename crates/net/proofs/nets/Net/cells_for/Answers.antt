@@ -33,9 +33,9 @@ returns g c =
       one-cell-for-each-place = record {
         known = omega arith;
         row =
-          ap₂ (λ n d. map (cellOf w) (take n d)) cut (ap₂ drop (ap (λ z. style * z) e) (c .deref .ensures .value))
-          ∙ row-read w (net .styles) starts (vec-items (net .cells)) (cells-counted w net) style (omega arith);
+            ap₂ (λ n d. map (cellOf w) (take n d)) cut (ap₂ drop (ap (λ z. style * z) e) (c .deref .ensures .value))
+            ∙ row-read w (net .styles) starts (vec-items (net .cells)) (cells-counted w net) style (omega arith);
         count =
-          length-take-le _ (drop (style * p) all) (omega (arith, within, length-drop (style * p) all)) ∙ cut ∙ sym (net .starts .ok .0);
+            length-take-le _ (drop (style * p) all) (omega (arith, within, length-drop (style * p) all)) ∙ cut ∙ sym (net .starts .ok .0);
       };
     }

@@ -17,8 +17,8 @@ returns g c =
     let net = c .args .self .now in
     record {
       copies-the-start-values =
-        made-more (c .from-slice .result) _ _
-        (λ v is. ap (map (g .W·Wheel .number)) (is .0 ∙ c .deref .ensures .value) ∙ starts-read (g .W·Wheel) (net .styles) (vec-items (net .starts)) (vec-items (net .cells)))
-        (c .from-slice .ensures .made);
+          made-more (c .from-slice .result) _ _
+          (λ v is. ap (map (g .W·Wheel .number)) (is .0 ∙ c .deref .ensures .value) ∙ starts-read (g .W·Wheel) (net .styles) (vec-items (net .starts)) (vec-items (net .cells)))
+          (c .from-slice .ensures .made);
       one-for-each-place = made-more (c .from-slice .result) _ _ (λ v is. is .1 ∙ c .deref .ensures .len) (c .from-slice .ensures .made);
     }
