@@ -1,20 +1,23 @@
+use crate::nets::cell;
 use crate::nets::one_place;
 use crate::nets::three_places;
 use galley::galleys::Galley;
 use galley::galleys::refusals::Refusing;
 use galley::galleys::refusals::SetRefusal;
+use galley::galleys::refusals::StandRefusalDebug;
 use galley::galleys::refusals::TryRefusal;
+use galley::galleys::refusals::TryRefusalDebug;
 use std::test::*;
 use wheel::four::Four;
 use wheel::four::FourTurns;
 use wheel::three::Three;
 use wheel::three::ThreeTurns;
-use wheel::two::Two;
+use wheel::turning::Wheel;
 use wheel::two::TwoTurns;
 
 #[test]
 fn four_accepts_once(rt: LibcRuntime) -> Result<(), Fail> {
-    let net = one_place::<Four>(rt.alloc(), 2, 2, 2)?;
+    let net = one_place(rt.alloc(), Four::from_digit(2), &[cell::<Four>(Some(2), 2)])?;
     let mut galley = Galley::stand(rt.alloc(), &net)?;
     check(galley.set(0).is_ok())?;
     check(galley.may() == 0)?;
@@ -34,7 +37,11 @@ fn four_accepts_once(rt: LibcRuntime) -> Result<(), Fail> {
 
 #[test]
 fn three_turns_round(rt: LibcRuntime) -> Result<(), Fail> {
-    let net = one_place::<Three>(rt.alloc(), 1, 1, 2)?;
+    let net = one_place(
+        rt.alloc(),
+        Three::from_digit(1),
+        &[cell::<Three>(Some(1), 2)],
+    )?;
     let mut galley = Galley::stand(rt.alloc(), &net)?;
     check(galley.set(0).is_ok())?;
     match galley.set(0) {
@@ -53,7 +60,7 @@ fn three_turns_round(rt: LibcRuntime) -> Result<(), Fail> {
 
 #[test]
 fn tries_two_of_three(rt: LibcRuntime) -> Result<(), Fail> {
-    let net = three_places::<Two>(rt.alloc())?;
+    let net = three_places(rt.alloc())?;
     let mut galley = Galley::stand(rt.alloc(), &net)?;
     check(galley.may() == 1)?;
     check_eq(galley.try_run(&[0, 1, 1])?, 2)?;
@@ -66,7 +73,7 @@ fn tries_two_of_three(rt: LibcRuntime) -> Result<(), Fail> {
 
 #[test]
 fn refuses_what_is_no_style(rt: LibcRuntime) -> Result<(), Fail> {
-    let net = three_places::<Two>(rt.alloc())?;
+    let net = three_places(rt.alloc())?;
     let mut galley = Galley::stand(rt.alloc(), &net)?;
     check(matches!(galley.set(3), Err(SetRefusal::UnknownStyle)))?;
     check(matches!(galley.set(255), Err(SetRefusal::UnknownStyle)))?;

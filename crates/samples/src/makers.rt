@@ -3,6 +3,7 @@ use net::arcs::Arc;
 use net::cells::Cell;
 use net::nets::Net;
 use net::nets::errors::NetError;
+use net::nets::errors::NetErrorDebug;
 use net::nets::errors::PlaceError;
 use std::alloc::Global;
 use std::test::*;

@@ -1,9 +1,13 @@
 // Nets to test with, made from digits.
 use net::cells::Cell;
 use net::nets::Net;
+use net::nets::errors::NetErrorDebug;
+use net::nets::errors::PlaceErrorDebug;
 use std::alloc::Global;
 use std::test::*;
 use wheel::turning::Wheel;
+use wheel::two::Two;
+use wheel::two::TwoTurns;
 
 // A cell by its digits: the wanted one, if any, and the turn.
 pub fn cell<W: Wheel>(wanted: Option<u8>, turn: u8) -> Cell<W> {
@@ -13,16 +17,16 @@ pub fn cell<W: Wheel>(wanted: Option<u8>, turn: u8) -> Cell<W> {
     }
 }
 
-// One style and one place: the start digit, the wanted digit and the turn.
-pub fn one_place<W: Wheel>(heap: Global, start: u8, wanted: u8, turn: u8) -> Result<Net<W>, Fail> {
+// One style and one place.
+pub fn one_place<W: Wheel>(heap: Global, start: W, cells: &[Cell<W>]) -> Result<Net<W>, Fail> {
     let mut net = Net::idle(heap, 1, 1)?;
-    net.put_place(0, W::from_digit(start), &[cell(Some(wanted), turn)])?;
+    net.put_place(0, start, cells)?;
     Ok(net)
 }
 
 // Styles head, body and quote: head fills place 0 and body empties it, and quote is refused by place 2 from the start.
-pub fn three_places<W: Wheel>(heap: Global) -> Result<Net<W>, Fail> {
-    let zero = W::from_digit(0);
+pub fn three_places(heap: Global) -> Result<Net<Two>, Fail> {
+    let zero = Two::from_digit(0);
     let mut net = Net::idle(heap, 3, 3)?;
     net.put_place(
         0,
