@@ -18,6 +18,12 @@ use Rattle.net.specs.declared.nets.Net.{Net}
 use Rattle.net.proofs.ByStyle.{row-room}
 use Rattle.net.proofs.Views.{laid-places, laid-place}
 
+-- what the laws of the trait say of a wheel
+pub record Lawful {W : Type 0} (w : Ghosts W) : Type 0 where
+  pub from-two : 2 ≤ w .order
+  pub to-nine : w .order ≤ 9
+  pub below : (x : W) → w .number x < w .order
+
 module _ {W : Type 0} (w : Ghosts W) where
   -- the number of places, as the code counts it
   pub places-counted : (net : Net W) → vec-len (net .starts) ≡ length (view w net .places)
@@ -32,22 +38,22 @@ module _ {W : Type 0} (w : Ghosts W) where
   row-within net style p cells below count e =
       row-room (net .styles) p style (length cells) below (ap length e ∙ cells-counted net ∙ ap (λ z. net .styles * z) (sym (count ∙ net .starts .ok .0)))
 
-  module _ (from-two : 2 ≤ w .order) (to-nine : w .order ≤ 9) (below : (x : W) → w .number x < w .order) where
+  module _ (laws : Lawful w) where
     pub number-below : (xs : List W) (i : ℕ) → getD (map (w .number) xs) i 0 < w .order
-    number-below [] i = omega arith
-    number-below (x ∷ xs) zero = below x
+    number-below [] i = omega (arith, laws .from-two)
+    number-below (x ∷ xs) zero = laws .below x
     number-below (x ∷ xs) (suc i) = number-below xs i
 
     wanted-below : (o : Option W) (v : ℕ) → mapped (w .number) o ≡ Some v → v < w .order
     wanted-below None v e = let never : _≡_ {A = ℕ} 0 1 = cc in absurd (omega arith)
-    wanted-below (Some x) v e = let same : w .number x ≡ v = cc in subst (λ z. z < w .order) same (below x)
+    wanted-below (Some x) v e = let same : w .number x ≡ v = cc in subst (λ z. z < w .order) same (laws .below x)
 
     cell-below : (cs : List (Cell W)) (j : ℕ) → CellOn (w .order) (getD (map (cellOf w) cs) j idle)
     cell-below [] j = record {
-      turn-below = omega arith;
+      turn-below = omega (arith, laws .from-two);
       wanted-below = λ v e. let never : _≡_ {A = ℕ} 0 1 = cc in absurd (omega arith);
     }
-    cell-below (c ∷ cs) zero = record { turn-below = below (c .turn); wanted-below = wanted-below (c .wanted) }
+    cell-below (c ∷ cs) zero = record { turn-below = laws .below (c .turn); wanted-below = wanted-below (c .wanted) }
     cell-below (c ∷ cs) (suc j) = cell-below cs j
 
     place-good : (n : ℕ) (starts : List W) (cells : List (Cell W)) (i : ℕ) → PlaceOn (w .order) n (placeAt w n starts cells i)
@@ -62,8 +68,8 @@ module _ {W : Type 0} (w : Ghosts W) where
     proper net =
         let places = places-counted net in
         record {
-          order-from-two = from-two;
-          order-to-nine = to-nine;
+          order-from-two = laws .from-two;
+          order-to-nine = laws .to-nine;
           some-style = net .«some_style»;
           few-styles = net .«few_styles»;
           few-places = omega (arith, net .«few_places»);

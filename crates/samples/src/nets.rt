@@ -10,7 +10,7 @@ use wheel::two::Two;
 use wheel::two::TwoTurns;
 
 // A cell by its digits: the wanted one, if any, and the turn.
-pub fn cell<W: Wheel>(wanted: Option<u8>, turn: u8) -> Cell<W> {
+pub(crate) fn cell<W: Wheel>(wanted: Option<u8>, turn: u8) -> Cell<W> {
     match wanted {
         Some(digit) => Cell::tested(W::from_digit(digit), W::from_digit(turn)),
         None => Cell::untested(W::from_digit(turn)),
@@ -18,14 +18,14 @@ pub fn cell<W: Wheel>(wanted: Option<u8>, turn: u8) -> Cell<W> {
 }
 
 // One style and one place.
-pub fn one_place<W: Wheel>(heap: Global, start: W, cells: &[Cell<W>]) -> Result<Net<W>, Fail> {
+pub(crate) fn one_place<W: Wheel>(heap: Global, start: W, cells: &[Cell<W>]) -> Result<Net<W>, Fail> {
     let mut net = Net::idle(heap, 1, 1)?;
     net.put_place(0, start, cells)?;
     Ok(net)
 }
 
 // Styles head, body and quote: head fills place 0 and body empties it, and quote is refused by place 2 from the start.
-pub fn three_places(heap: Global) -> Result<Net<Two>, Fail> {
+pub(crate) fn three_places(heap: Global) -> Result<Net<Two>, Fail> {
     let zero = Two::from_digit(0);
     let mut net = Net::idle(heap, 3, 3)?;
     net.put_place(

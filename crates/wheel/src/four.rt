@@ -40,6 +40,6 @@ pub impl Wheel for Four as FourTurns {
     }
 
     fn same(self, other: Four) -> bool {
-        self.value == other.value
+        other.value == self.value
     }
 }

@@ -12,7 +12,7 @@ use net::cells::Cell;
 use wheel::turning::Wheel;
 
 // The first place that refuses the style.
-pub fn first_refusing<W: Wheel>(cells: &[Cell<W>], shown: &[W]) -> Option<Refusing>
+pub(super) fn first_refusing<W: Wheel>(cells: &[Cell<W>], shown: &[W]) -> Option<Refusing>
     requires a_cell_for_each_place { ⌜ length (now cells) ≡ length (now shown) ⌝ }
     ensures is_the_first { λ r. ⌜ BySome r (NoneRefuses (map (cellOf W·Wheel) (now (cells .entry))) (map (W·Wheel .number) (now (shown .entry))) (length (now (cells .entry)))) (FirstRefuses (map (cellOf W·Wheel) (now (cells .entry))) (map (W·Wheel .number) (now (shown .entry)))) ⌝ }
 {
@@ -33,7 +33,7 @@ pub fn first_refusing<W: Wheel>(cells: &[Cell<W>], shown: &[W]) -> Option<Refusi
 }
 
 // Turns each place by its turn for the style.
-pub fn turn_all<W: Wheel>(cells: &[Cell<W>], shown: &mut Vec<W>)
+pub(super) fn turn_all<W: Wheel>(cells: &[Cell<W>], shown: &mut Vec<W>)
     requires a_cell_for_each_place { ⌜ length (now cells) ≡ vec-len (now shown) ⌝ }
     ensures each_place_turns { λ _. ⌜ Turned (W·Wheel .order) (map (cellOf W·Wheel) (now (cells .entry))) (map (W·Wheel .number) (vec-items (now (shown .entry)))) (length (now (cells .entry))) (map (W·Wheel .number) (vec-items (now (shown .exit)))) ⌝ }
     ensures as_many_places_as_before { λ _. ⌜ vec-len (now (shown .exit)) ≡ vec-len (now (shown .entry)) ⌝ }

@@ -20,11 +20,15 @@ use Rattle.galley.specs.Rows.{NoneRefuses, RefusesAt}
 use Rattle.net.specs.declared.nets.Net.{Net}
 use Rattle.net.specs.Views.{idle, cellOf, view}
 use Rattle.galley.proofs.Playing.{Free, free-accepts, accepts-free, free-enabled, enabled-free, row-count}
-use Rattle.net.proofs.Proper.{number-below, proper}
+use Rattle.net.proofs.Proper.{Lawful, number-below, proper}
 use Rattle.galley.proofs.Rows.{read-mapped, none-case, some-case}
 use Rattle.galley.proofs.galleys.Galley.may.Given as given
 use Rattle.galley.proofs.galleys.Galley.may.Needs as need
 use Rattle.galley.proofs.galleys.Galley.may.Needs.{then-place-cells, else-place-cells·then-is-some, then-is-none, else-is-none}
+
+-- the wheel's laws
+lawful : (g : given.Over) → Lawful (g .W·Wheel)
+lawful g = let laws = g .W·Wheel·met in record { from-two = laws .«at_least_two»; to-nine = laws .«at_most_nine»; below = laws .«numbers_are_below_the_order» }
 
 pub loop-place-again : need.loop-place-again
 loop-place-again g c =
@@ -79,10 +83,6 @@ refused g c some is-free =
           (subst (λ cs. RefusesAt cs values i) row (subst₂ Unwanted (ap (λ x. x .wanted) (sym here)) (sym value) unwanted))
     ]
 
--- the net keeps the limits
-good : (g : given.Over) (net : Net (g .W .Denot)) → Proper (view (g .W·Wheel) net)
-good g = let laws = g .W·Wheel·met in proper (g .W·Wheel) (laws .«at_least_two») (laws .«at_most_nine») (laws .«numbers_are_below_the_order»)
-
 pub loop-cells-again : need.loop-cells-again
 loop-cells-again g c =
     let w = g .W·Wheel in
@@ -90,7 +90,7 @@ loop-cells-again g c =
     let style = c .loop-cells .style in
     let menu = c .loop-cells .menu in
     let P = Free (netOf w (c .args .self .now)) (map (w .number) (vec-items (c .args .self .now .shown))) in
-    let few : style < 16 = omega (arith, good g (c .args .self .now .net .now) .few-styles, c .in-Some .ensures tt .one-cell-for-each-place .known) in
+    let few : style < 16 = omega (arith, proper (g .W·Wheel) (lawful g) (c .args .self .now .net .now) .few-styles, c .in-Some .ensures tt .one-cell-for-each-place .known) in
     let filled : Filled P (style + 1) (c .if-is-none .menu) = elim (c .if-is-none .came) [
       | then-is-none v ↦
           subst (Filled P (style + 1)) (sym (v .menu-is ∙ bit-added style menu few (so-far .small))) (filled-set P style menu so-far (free g c (v .if-is-none .ensures tt)))
@@ -102,13 +102,12 @@ loop-cells-again g c =
 pub returns : need.returns
 returns g c =
     let w = g .W·Wheel in
-    let laws = g .W·Wheel·met in
     let galley = c .args .self .now in
     let net = netOf w galley in
     let values = map (w .number) (vec-items (galley .shown)) in
-    let proper = good g (galley .net .now) in
+    let proper = proper (g .W·Wheel) (lawful g) (galley .net .now) in
     let count : net .styles ≡ c .loop-cells .style = omega (arith, c .loop-cells .inv .1, c .in-rest .ensures tt .one-cell-for-each-place) in
-    let below = number-below w (laws .«at_least_two») (laws .«at_most_nine») (laws .«numbers_are_below_the_order») (vec-items (galley .shown)) in
+    let below = number-below w (lawful g) (vec-items (galley .shown)) in
     let filled = subst (λ n. Filled (Free net values) n (c .loop-cells .menu)) (sym count) (c .loop-cells .inv .0) in
     record {
       offers-exactly-what-set-accepts = λ run so.

@@ -16,16 +16,13 @@ use Rattle.galley.specs.Galleys.{netOf}
 use Rattle.net.specs.declared.nets.Net.{Net}
 use Rattle.net.specs.Views.{cellOf, view}
 use Rattle.galley.proofs.Playing.{row-accepts, row-owes, row-turned, stands-next, turned-leads, refusing-disables}
-use Rattle.net.proofs.Proper.{number-below, proper}
+use Rattle.net.proofs.Proper.{Lawful, number-below, proper}
 use Rattle.galley.proofs.galleys.Galley.set.Given as given
 use Rattle.galley.proofs.galleys.Galley.set.Needs as need
 
--- what the places show is below k, and the net keeps the limits
-below : (g : given.Over) (values : List (g .W .Denot)) (i : ℕ) → getD (map (g .W·Wheel .number) values) i 0 < g .W·Wheel .order
-below g = let laws = g .W·Wheel·met in number-below (g .W·Wheel) (laws .«at_least_two») (laws .«at_most_nine») (laws .«numbers_are_below_the_order»)
-
-good : (g : given.Over) (net : Net (g .W .Denot)) → Proper (view (g .W·Wheel) net)
-good g = let laws = g .W·Wheel·met in proper (g .W·Wheel) (laws .«at_least_two») (laws .«at_most_nine») (laws .«numbers_are_below_the_order»)
+-- the wheel's laws
+lawful : (g : given.Over) → Lawful (g .W·Wheel)
+lawful g = let laws = g .W·Wheel·met in record { from-two = laws .«at_least_two»; to-nine = laws .«at_most_nine»; below = laws .«numbers_are_below_the_order» }
 
 pub returns-in-rest : need.returns-in-rest
 returns-in-rest g c =
@@ -36,7 +33,7 @@ returns-in-rest g c =
       has-set-the-run-after = λ run so. so;
       accepts-exactly-what-fires = λ run so. (
         λ e. absurd (false≢true e),
-        λ fires. absurd (owed-refusal {run = run} (unknown-style past) (fires-accepts (netOf (g .W·Wheel) galley) (good g (galley .net .now)) run (c .args .style) fires)),
+        λ fires. absurd (owed-refusal {run = run} (unknown-style past) (fires-accepts (netOf (g .W·Wheel) galley) (proper (g .W·Wheel) (lawful g) (galley .net .now)) run (c .args .style) fires)),
       );
       fires-in-the-shown-marking = (λ e. absurd (false≢true e), λ on. absurd (omega (arith, on .is-transition, past)));
       stands-on-the-same-net = refl;
@@ -49,7 +46,7 @@ returns-in-Some-first-refusing g c =
     let galley = c .args .self .now in
     let net = view w (galley .net .now) in
     let style = c .args .style in
-    let proper = good g (galley .net .now) in
+    let proper = proper (g .W·Wheel) (lawful g) (galley .net .now) in
     let cells = map (cellOf w) (c .in-Some .cells .now) in
     let row : cells ≡ map (λ p. cell p style) (net .places) = c .in-Some .ensures tt .one-cell-for-each-place .row ∙ ap (λ s. map (λ p. cell p s) (net .places)) (c .from .ensures) in
     let known : style < net .styles = omega (arith, c .in-Some .ensures tt .one-cell-for-each-place .known, c .from .ensures) in
@@ -64,7 +61,7 @@ returns-in-Some-first-refusing g c =
       );
       fires-in-the-shown-marking = (
         λ e. absurd (false≢true e),
-        λ on. absurd (refusing-disables net style cells (map (w .number) (vec-items (galley .shown))) row proper (below g (vec-items (galley .shown))) known (c .in-Some-first-refusing .refusing) first on),
+        λ on. absurd (refusing-disables net style cells (map (w .number) (vec-items (galley .shown))) row proper (number-below (g .W·Wheel) (lawful g) (vec-items (galley .shown))) known (c .in-Some-first-refusing .refusing) first on),
       );
       stands-on-the-same-net = refl;
       refused-calls-change-nothing = λ e. refl;
@@ -76,7 +73,7 @@ returns-in-None g c =
     let galley = c .args .self .now in
     let net = view w (galley .net .now) in
     let style = c .args .style in
-    let proper = good g (galley .net .now) in
+    let proper = proper (g .W·Wheel) (lawful g) (galley .net .now) in
     let cells = map (cellOf w) (c .in-Some .cells .now) in
     let values = map (w .number) (vec-items (galley .shown)) in
     let row : cells ≡ map (λ p. cell p style) (net .places) = c .in-Some .ensures tt .one-cell-for-each-place .row ∙ ap (λ s. map (λ p. cell p s) (net .places)) (c .from .ensures) in
@@ -97,7 +94,7 @@ returns-in-None g c =
         λ fires. refl,
       );
       fires-in-the-shown-marking = (
-        λ e. turned-leads net style cells values row proper (below g (vec-items (galley .shown))) known none (map (w .number) (vec-items (c .turn-all .last .shown))) turned,
+        λ e. turned-leads net style cells values row proper (number-below (g .W·Wheel) (lawful g) (vec-items (galley .shown))) known none (map (w .number) (vec-items (c .turn-all .last .shown))) turned,
         λ on. refl,
       );
       stands-on-the-same-net = refl;

@@ -14,18 +14,15 @@ use Rattle.galley.specs.Rows.{NoneRefuses, FirstRefuses, Turned}
 use Rattle.galley.specs.Standing.{Stands}
 use Rattle.net.specs.Views.{cellOf, view}
 use Rattle.net.specs.declared.nets.Net.{Net}
-use Rattle.net.proofs.Proper.{number-below, proper}
+use Rattle.net.proofs.Proper.{Lawful, number-below, proper}
 use Rattle.galley.proofs.Rows.{none-case, some-case}
 use Rattle.galley.proofs.Trying.{Going, marks, going-more, stopped-longest, stopped-firing, whole-longest, whole-firing}
 use Rattle.galley.proofs.galleys.trying.longest_prefix.Given as given
 use Rattle.galley.proofs.galleys.trying.longest_prefix.Needs as need
 
--- what the places show is below k, and the net keeps the limits
-below : (g : given.Over) (values : List (g .W .Denot)) (i : ℕ) → getD (map (g .W·Wheel .number) values) i 0 < g .W·Wheel .order
-below g = let laws = g .W·Wheel·met in number-below (g .W·Wheel) (laws .«at_least_two») (laws .«at_most_nine») (laws .«numbers_are_below_the_order»)
-
-good : (g : given.Over) (net : Net (g .W .Denot)) → Proper (view (g .W·Wheel) net)
-good g = let laws = g .W·Wheel·met in proper (g .W·Wheel) (laws .«at_least_two») (laws .«at_most_nine») (laws .«numbers_are_below_the_order»)
+-- the wheel's laws
+lawful : (g : given.Over) → Lawful (g .W·Wheel)
+lawful g = let laws = g .W·Wheel·met in record { from-two = laws .«at_least_two»; to-nine = laws .«at_most_nine»; below = laws .«numbers_are_below_the_order» }
 
 pub loop-step-again : need.loop-step-again
 loop-step-again g c =
@@ -45,7 +42,7 @@ loop-step-again g c =
     (none-case (c .first-refusing .result) _ _ (c .first-refusing .ensures .is-the-first) (sym (c .if-is-some .ensures tt)))) in
     let turned : Turned (w .order) cells (map (w .number) now) (length cells) (map (w .number) next) =
     subst (λ n. Turned (w .order) cells (map (w .number) now) n (map (w .number) next)) long (c .turn-all .ensures .each-place-turns) in (
-      going-more w net (c .args .saved .now) run now step (c .loop-step .inv .0) (c .loop-step-test .taken) cells row (good g net) (below g now) (c .pre .styles-known step (c .loop-step-test .taken)) next none turned,
+      going-more w net (c .args .saved .now) run now step (c .loop-step .inv .0) (c .loop-step-test .taken) cells row (proper (g .W·Wheel) (lawful g) net) (number-below (g .W·Wheel) (lawful g) now) (c .pre .styles-known step (c .loop-step-test .taken)) next none turned,
       c .turn-all .ensures .as-many-places-as-before ∙ c .loop-step .inv .1,
     )
 
@@ -65,11 +62,11 @@ returns-then-is-some g c =
       shows-again-what-it-showed = search needs;
       as-many-as-before = search needs;
       is-the-longest = λ before so.
-          stopped-longest w net (c .args .saved .now) run now step (c .loop-step .inv .0) (c .loop-step-test .taken) cells row (good g net) (below g now) known (found .0) first before
+          stopped-longest w net (c .args .saved .now) run now step (c .loop-step .inv .0) (c .loop-step-test .taken) cells row (proper (g .W·Wheel) (lawful g) net) (number-below (g .W·Wheel) (lawful g) now) known (found .0) first before
           (subst (λ values. Stands w net values before) (sym (c .pre .saved-are-the-shown)) so);
       is-the-longest-to-fire =
           subst (λ values. LongestFiring (test-and-flip (view w net)) (marks w values) run step) (c .pre .saved-are-the-shown)
-          (stopped-firing w net (c .args .saved .now) run now step (c .loop-step .inv .0) (c .loop-step-test .taken) cells row (good g net) (below g now) known (found .0) first);
+          (stopped-firing w net (c .args .saved .now) run now step (c .loop-step .inv .0) (c .loop-step-test .taken) cells row (proper (g .W·Wheel) (lawful g) net) (number-below (g .W·Wheel) (lawful g) now) known (found .0) first);
     }
 
 pub returns : need.returns
