@@ -1,5 +1,5 @@
 -- What the row of one style says of the net's places. Assumes nothing.
-use Prim.Native.Nat.{ℕ, _+_, _%_, _<_, _≤_}
+use Prim.Native.Nat.{ℕ, _+_, _%_, _<_}
 use mathlib.Core.List.{List, [], _∷_, _++_, map}
 use mathlib.Core.Path.{_≡_, refl, sym, ap, ap₂, subst, subst₂, _∙_}
 use native.Mathlib.Omega.{arith}
@@ -10,7 +10,7 @@ use Rattle.theory.proofs.Firing.{meets, frees}
 use Rattle.theory.proofs.Playing.{accepted-none, accepted-more}
 use Rattle.theory.proofs.Showing.{shows-next, shows-start}
 use Rattle.theory.specs.Nets as N
-use Rattle.theory.specs.Outcomes.{SetOwes, Outcome, refused, place-refuses}
+use Rattle.theory.specs.Outcomes.{SetOwes, refused, place-refuses}
 use Rattle.theory.specs.Places as P
 use Rattle.theory.specs.Playing.{Accepts, FirstRefusing, RefusesAfter}
 use Rattle.theory.specs.Positions.{position}

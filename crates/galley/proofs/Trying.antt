@@ -1,5 +1,5 @@
 -- Setting a run style by style, as far as it goes. Assumes nothing.
-use Prim.Native.Nat.{ℕ, _+_, _%_, _<_, _≤_}
+use Prim.Native.Nat.{ℕ, _+_, _%_, _<_}
 use mathlib.Core.List.{List, [], _∷_, _++_, map}
 use mathlib.Core.Path.{_≡_, refl, sym, ap, subst, _∙_}
 use native.Mathlib.Omega.{arith}
@@ -17,7 +17,7 @@ use Rattle.galley.specs.Standing.{Stands}
 use Rattle.net.specs.Views.{view}
 use Rattle.galley.specs.declared.galleys.refusals.Refusing.{Refusing}
 use Rattle.net.specs.declared.nets.Net.{Net}
-use Rattle.galley.proofs.Playing.{row-accepts, row-owes, row-turned, stands-next, none-enabled, turned-leads, refusing-disables}
+use Rattle.galley.proofs.Playing.{row-accepts, row-owes, row-turned, stands-next, turned-leads, refusing-disables}
 
 -- the values as a marking
 abbrev pub marks : {W : Type 0} → Ghosts W → List W → Marking

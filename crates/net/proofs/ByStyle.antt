@@ -1,13 +1,12 @@
 -- What is read of a net is what its places hold. Assumes nothing.
 use Prim.Native.Nat.{ℕ, _+_, _*_, _<_, _≤_}
 use mathlib.Core.List.{List, [], map}
-use mathlib.Core.Path.{_≡_, refl, sym, ap, _∙_}
+use mathlib.Core.Path.{_≡_, sym, ap, _∙_}
 use native.Mathlib.Nat.{mul-le-mul-right}
 use native.Mathlib.Omega.{arith}
 use denote.Ref.{RefT}
 use lib.ListN.{length, getD, take, drop}
 use Rattle.std.proofs.shelf.Bits.{mul-add-lt}
-use Rattle.std.proofs.shelf.Counted.{getD-map-counting}
 use Rattle.std.proofs.shelf.Lists.{length-map, length-take-le, length-drop, getD-map, getD-take, getD-drop, getD-default, take-map, drop-map, same-lists}
 use Rattle.std.specs.Options.{Cases, mapped}
 use Rattle.std.specs.Places.{Item}
@@ -16,7 +15,7 @@ use Rattle.std.specs.declared.option.Option.the-variants.{Some, None}
 use Rattle.theory.specs.Nets as N
 use Rattle.theory.specs.Places as P
 use Rattle.wheel.specs.declared.turning.Wheel.{Ghosts}
-use Rattle.net.specs.Views.{idle, cellOf, cellAt, placeAt, laidOut}
+use Rattle.net.specs.Views.{idle, cellOf, laidOut}
 use Rattle.net.specs.declared.cells.Cell.{Cell}
 use Rattle.net.proofs.Views.{laid-places, laid-place, laid-cell}
 

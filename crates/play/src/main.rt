@@ -5,8 +5,6 @@ use crate::lines::menu_line;
 use crate::sample::sample_net;
 use crate::sample::style_named;
 use galley::galleys::Galley;
-use net::arcs::Arc;
-use net::cells::Cell;
 use net::nets::Net;
 use std::env;
 use std::error::AnyError;

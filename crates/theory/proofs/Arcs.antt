@@ -5,7 +5,7 @@ use native.Mathlib.Omega.{arith}
 use Rattle.std.specs.declared.option.Option.{Option}
 use Rattle.std.specs.declared.option.Option.the-variants.{Some, None}
 use Rattle.theory.specs.Arcs.{Arc, no-arc, test-zero, test-one, complement, fill, empty, table, cell-of, SixArcs}
-use Rattle.theory.specs.Places.{Cell, CellOn}
+use Rattle.theory.specs.Places.{CellOn}
 use Rattle.theory.specs.TestAndFlip.{entries}
 
 listed : (x : Arc) → entries 2 (cell-of x) ≡ table x

@@ -3,7 +3,7 @@ use Prim.Native.Nat.{ℕ}
 use mathlib.Core.List.{List}
 use native.Mathlib.Omega.{arith}
 use Rattle.theory.specs.Nets.{Net}
-use Rattle.theory.specs.Outcomes.{SetOwes, Outcome, done, refused, unknown-style, place-refuses}
+use Rattle.theory.specs.Outcomes.{SetOwes, refused, unknown-style, place-refuses}
 use Rattle.theory.specs.Playing.{Accepts}
 
 -- a style that Set owes a refusal is not accepted

@@ -1,11 +1,11 @@
 -- Runs that are accepted one style after the other. Assumes nothing.
-use Prim.Native.Nat.{ℕ, suc, _+_, _<_, _≤_}
+use Prim.Native.Nat.{ℕ}
 use mathlib.Core.List.{List, [], _∷_, _++_}
 use mathlib.Core.Logic.{⊎-elim}
-use mathlib.Core.Path.{_≡_, sym, ap, subst, subst₂, _∙_}
+use mathlib.Core.Path.{_≡_, sym, subst₂}
 use native.Mathlib.Omega.{arith}
-use lib.ListN.{length, getD, take}
-use Rattle.std.proofs.shelf.Lists.{append-nil, append-assoc, take-append-le, take-at, getD-append-left, getD-at, length-push, length-append, take-more, take-all}
+use lib.ListN.{length}
+use Rattle.std.proofs.shelf.Lists.{take-append-le, take-at, getD-append-left, getD-at, length-push}
 use Rattle.std.proofs.shelf.Tests.{cases-lt}
 use Rattle.theory.specs.Nets.{Net}
 use Rattle.theory.specs.Playing.{Accepts, Accepted}

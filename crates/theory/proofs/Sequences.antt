@@ -1,7 +1,7 @@
 -- Firing sequences that are one transition longer. Assumes nothing.
 use Prim.Native.Nat.{ℕ, _+_, _*_, _%_, _<_}
 use mathlib.Core.List.{List, [], _∷_, _++_}
-use mathlib.Core.Path.{_≡_, refl, sym, ap, subst, _∙_}
+use mathlib.Core.Path.{_≡_, refl, subst}
 use Rattle.theory.specs.TestAndFlip.{TestAndFlip, Marking, Enabled, Fires, fired}
 
 module _ (F : TestAndFlip) where

@@ -1,4 +1,4 @@
-// Wheels that can divide: those whose k is prime.
+// Wheels that can divide.
 ghost use Prim.Native.Nat.{_*_, _%_};
 ghost use mathlib.Core.Path.{_≡_};
 use crate::turning::Wheel;

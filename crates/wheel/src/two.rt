@@ -1,5 +1,4 @@
 // The wheel of two, kept as a bit.
-ghost use Prim.Native.Nat.{ℕ};
 ghost use mathlib.Core.Bool.{cond};
 use crate::dividing::DividingWheel;
 use crate::turning::Wheel;

@@ -1,5 +1,4 @@
 // One style's cells beside the values that the places show.
-ghost use Prim.Native.Nat.{ℕ, _+_, _%_, _<_};
 ghost use Rattle.galley.specs.Rows.{NoneRefuses, FirstRefuses, Turned};
 ghost use Rattle.net.specs.Views.{cellOf};
 ghost use Rattle.std.specs.Of.Vec.{vec-items, vec-len};

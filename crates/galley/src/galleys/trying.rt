@@ -1,5 +1,5 @@
 // Try: how far a run could be set.
-ghost use Prim.Native.Nat.{ℕ, _<_};
+ghost use Prim.Native.Nat.{ℕ};
 ghost use Rattle.galley.specs.Galleys.{HasSet, netOf, marking};
 ghost use Rattle.galley.specs.Refusals.{try-outcome};
 ghost use Rattle.galley.specs.Standing.{Stands};
@@ -12,7 +12,7 @@ ghost use Rattle.theory.specs.Outcomes.{TryOwes, FirstUnknown};
 ghost use Rattle.theory.specs.Playing.{Longest};
 ghost use Rattle.theory.specs.Positions.{Below as StylesBelow};
 ghost use Rattle.theory.specs.TestAndFlip.{LongestFiring, test-and-flip};
-ghost use lib.ListN.{length, getD};
+ghost use lib.ListN.{getD};
 ghost use mathlib.Core.Bool.{true};
 ghost use mathlib.Core.List.{List, map};
 ghost use mathlib.Core.Path.{_≡_};

@@ -2,8 +2,6 @@
 ghost use Rattle.net.specs.Making.{IdleOwes, PutOwes};
 ghost use Rattle.net.specs.Views.{view, idle-net};
 ghost use Rattle.std.specs.Results.{isErr};
-ghost use Rattle.std.specs.Vec.{made};
-ghost use Rattle.theory.specs.Nets.{Proper};
 ghost use mathlib.Core.Bool.{true};
 ghost use mathlib.Core.Path.{_≡_};
 use crate::cells::Cell;

@@ -1,24 +1,21 @@
-use Prim.Native.Nat.{ℕ, _+_, _<_, _≤_, _^_}
-use mathlib.Core.Bool.{true, false, not}
-use mathlib.Core.List.{List, map}
-use mathlib.Core.Path.{_≡_, refl, sym, ap, subst, subst₂, _∙_}
+use Prim.Native.Nat.{_+_, _<_}
+use mathlib.Core.Bool.{true, false}
+use mathlib.Core.List.{map}
+use mathlib.Core.Path.{_≡_, sym, ap, subst, subst₂, _∙_}
 use native.Mathlib.Omega.{arith}
 use borrow.Author.Count.{below-more}
 use lib.ListN.{length, getD}
 use Rattle.std.proofs.shelf.Lists.{length-map}
-use Rattle.std.proofs.shelf.Tests.{false≢true, true≢false, not-true, not-false}
-use Rattle.std.specs.Of.Vec.{vec-items, vec-len}
+use Rattle.std.proofs.shelf.Tests.{false≢true}
+use Rattle.std.specs.Of.Vec.{vec-items}
 use Rattle.std.specs.Options.{isSome, mapped}
-use Rattle.std.specs.declared.option.Option.the-variants.{Some}
 use Rattle.theory.proofs.Menus.{Filled, filled-set, filled-clear, filled-offers, bit-added}
 use Rattle.theory.specs.Playing.{Accepts}
 use Rattle.theory.specs.TestAndFlip.{Enabled, test-and-flip}
-use Rattle.theory.specs.Nets.{Proper}
-use Rattle.theory.specs.Places.{Unwanted, cell}
+use Rattle.theory.specs.Places.{Unwanted}
 use Rattle.galley.specs.Galleys.{netOf}
-use Rattle.galley.specs.Rows.{NoneRefuses, RefusesAt}
-use Rattle.net.specs.declared.nets.Net.{Net}
-use Rattle.net.specs.Views.{idle, cellOf, view}
+use Rattle.galley.specs.Rows.{RefusesAt}
+use Rattle.net.specs.Views.{idle, cellOf}
 use Rattle.galley.proofs.Playing.{Free, free-accepts, accepts-free, free-enabled, enabled-free, row-count}
 use Rattle.net.proofs.Proper.{Lawful, number-below, proper}
 use Rattle.galley.proofs.Rows.{read-mapped, none-case, some-case}

@@ -1,19 +1,17 @@
-use Prim.Native.Nat.{ℕ, _<_, _≤_}
-use mathlib.Core.List.{List, map}
+use Prim.Native.Nat.{_<_, _≤_}
+use mathlib.Core.List.{map}
 use mathlib.Core.Path.{_≡_, refl, sym, ap, subst, _∙_}
 use native.Mathlib.Omega.{arith}
-use lib.ListN.{length, getD}
+use lib.ListN.{length}
 use Rattle.std.proofs.shelf.Lists.{length-map}
 use Rattle.std.proofs.shelf.Tests.{false≢true}
 use Rattle.std.specs.Of.Vec.{vec-items}
 use Rattle.theory.proofs.Firing.{accepts-fires, fires-accepts}
 use Rattle.theory.proofs.Owed.{owed-refusal}
-use Rattle.theory.specs.Nets.{Proper}
 use Rattle.theory.specs.Outcomes.{unknown-style, accepted}
 use Rattle.theory.specs.Places.{cell}
 use Rattle.galley.specs.Rows.{NoneRefuses, FirstRefuses, Turned}
 use Rattle.galley.specs.Galleys.{netOf}
-use Rattle.net.specs.declared.nets.Net.{Net}
 use Rattle.net.specs.Views.{cellOf, view}
 use Rattle.galley.proofs.Playing.{row-accepts, row-owes, row-turned, stands-next, turned-leads, refusing-disables}
 use Rattle.net.proofs.Proper.{Lawful, number-below, proper}

@@ -1,19 +1,15 @@
-use Prim.Native.Nat.{ℕ, _+_, _<_}
-use mathlib.Core.List.{List, map}
+use mathlib.Core.List.{map}
 use mathlib.Core.Path.{_≡_, sym, ap, subst, _∙_}
 use native.Mathlib.Omega.{arith}
 use borrow.Author.Needs.{needs}
 use lib.ListN.{length, getD}
 use Rattle.std.proofs.shelf.Lists.{length-map}
-use Rattle.std.specs.Of.Vec.{vec-items, vec-len}
-use Rattle.theory.specs.Nets.{Proper}
+use Rattle.std.specs.Of.Vec.{vec-items}
 use Rattle.theory.specs.Places.{cell}
-use Rattle.theory.specs.Playing.{Longest}
 use Rattle.theory.specs.TestAndFlip.{LongestFiring, test-and-flip}
 use Rattle.galley.specs.Rows.{NoneRefuses, FirstRefuses, Turned}
 use Rattle.galley.specs.Standing.{Stands}
 use Rattle.net.specs.Views.{cellOf, view}
-use Rattle.net.specs.declared.nets.Net.{Net}
 use Rattle.net.proofs.Proper.{Lawful, number-below, proper}
 use Rattle.galley.proofs.Rows.{none-case, some-case}
 use Rattle.galley.proofs.Trying.{Going, marks, going-more, stopped-longest, stopped-firing, whole-longest, whole-firing}

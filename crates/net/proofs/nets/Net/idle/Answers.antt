@@ -1,8 +1,6 @@
-use Prim.Native.Nat.{_*_}
-use mathlib.Core.Path.{_≡_, sym, ap, ap₂, _∙_}
+use mathlib.Core.Path.{_≡_, ap, ap₂, _∙_}
 use native.Mathlib.Nat.{zero-mod}
 use native.Mathlib.Omega.{arith}
-use lib.ListN.{replicate}
 use Rattle.std.specs.Options.{mapped}
 use Rattle.net.specs.Views.{idle, cellOf, laidOut}
 use Rattle.net.proofs.Views.{idle-laid}

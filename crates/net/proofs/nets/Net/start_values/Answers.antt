@@ -1,6 +1,6 @@
 use mathlib.Core.List.{map}
-use mathlib.Core.Path.{_≡_, sym, ap, _∙_}
-use Rattle.std.specs.Of.Vec.{vec-items, vec-len}
+use mathlib.Core.Path.{ap, _∙_}
+use Rattle.std.specs.Of.Vec.{vec-items}
 use Rattle.std.specs.Vec.{made}
 use Rattle.std.specs.declared.result.Result.{Result}
 use Rattle.std.specs.declared.result.Result.the-variants.{Ok, Err}

@@ -1,10 +1,9 @@
-use borrow.Author.Needs.{needs}
 use native.Mathlib.Omega.{arith}
 use Rattle.std.proofs.shelf.Bits.{mul-add-lt}
 use Rattle.std.proofs.shelf.Lists.{getD-read}
 use lib.ListN.{length}
 use Prim.Native.Nat.{_+_, _*_, _<_}
-use Rattle.std.specs.Of.Vec.{vec-items, vec-len}
+use Rattle.std.specs.Of.Vec.{vec-items}
 use Rattle.net.proofs.Columns.{column-more}
 use Rattle.net.proofs.nets.columns.write_column.Needs as need
 

@@ -1,4 +1,4 @@
-use mathlib.Core.Path.{refl, sym, ap, _∙_}
+use mathlib.Core.Path.{refl, ap, _∙_}
 use lib.ListN.{length}
 use Rattle.std.proofs.shelf.Lists.{refilled-is}
 use Rattle.galley.proofs.galleys.restoring.Restoring.drop.Needs as need
