@@ -18,7 +18,11 @@ pub(crate) fn cell<W: Wheel>(wanted: Option<u8>, turn: u8) -> Cell<W> {
 }
 
 // One style and one place.
-pub(crate) fn one_place<W: Wheel>(heap: Global, start: W, cells: &[Cell<W>]) -> Result<Net<W>, Fail> {
+pub(crate) fn one_place<W: Wheel>(
+    heap: Global,
+    start: W,
+    cells: &[Cell<W>],
+) -> Result<Net<W>, Fail> {
     let mut net = Net::idle(heap, 1, 1)?;
     net.put_place(0, start, cells)?;
     Ok(net)
