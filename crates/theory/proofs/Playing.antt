@@ -8,7 +8,7 @@ use lib.ListN.{length}
 use Rattle.std.proofs.shelf.Lists.{take-append-le, take-at, getD-append-left, getD-at, length-push}
 use Rattle.std.proofs.shelf.Tests.{cases-lt}
 use Rattle.theory.specs.Nets.{Net}
-use Rattle.theory.specs.Playing.{Accepts, Accepted}
+use Rattle.theory.specs.Playing.{Accepts, Accepted, AcceptedAreLetThrough}
 
 pub accepted-none : (N : Net) → Accepted N []
 accepted-none N j h = absurd (omega arith)
@@ -29,3 +29,9 @@ module _ (N : Net) (run : List ℕ) (style : ℕ) where
   accepted-last all =
       let long = length-push run style in
       subst₂ (Accepts N) (take-at run (style ∷ []) (length run) mathlib.Core.Path.refl) (getD-at run style [] 0 (length run) mathlib.Core.Path.refl) (all (length run) (omega arith))
+
+pub accepted-are-let-through : AcceptedAreLetThrough
+accepted-are-let-through N run = (
+  λ all. (λ j h. all j h .known, λ i within j h refuses. all j h .free i within refuses),
+  λ good j h. record { known = good .0 j h; free = λ i within refuses. good .1 i within j h refuses },
+)

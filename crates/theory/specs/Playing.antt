@@ -2,9 +2,9 @@
 use Prim.Native.Nat.{ℕ, _<_, _≤_}
 use mathlib.Core.List.{List, _++_}
 use lib.ListN.{length, getD, take}
-use Rattle.theory.specs.Nets.{Net, place}
+use Rattle.theory.specs.Nets.{Net, place, Net-lets-through}
 use Rattle.theory.specs.Places.{Refuses}
-use Rattle.theory.specs.Positions.{position}
+use Rattle.theory.specs.Positions.{position, Below}
 
 -- place number i refuses the style at the run's position
 abbrev pub RefusesAfter : Net → List ℕ → ℕ → ℕ → Type 0
@@ -30,3 +30,7 @@ pub record Longest (N : Net) (before run : List ℕ) (c : ℕ) : Type 0 where
   pub within : c ≤ length run
   pub accepted : Accepted N (before ++ take c run)
   pub no-further : c < length run → Accepts N (before ++ take c run) (getD run c 0) → ⊥
+
+-- a run is accepted style by style exactly when its styles are the net's and the net lets it through
+abbrev pub AcceptedAreLetThrough : Type 0
+AcceptedAreLetThrough = (N : Net) (run : List ℕ) → (Accepted N run → Below (N .styles) run × Net-lets-through N run) × (Below (N .styles) run × Net-lets-through N run → Accepted N run)
