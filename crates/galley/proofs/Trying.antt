@@ -1,10 +1,10 @@
 -- Setting a run style by style, as far as it goes. Assumes nothing.
 use Prim.Native.Nat.{ℕ, _+_, _%_, _<_}
 use mathlib.Core.List.{List, [], _∷_, _++_, map}
-use mathlib.Core.Path.{_≡_, refl, sym, ap, subst, _∙_}
+use mathlib.Core.Path.{_≡_, sym, ap, subst, _∙_}
 use native.Mathlib.Omega.{arith}
 use lib.ListN.{length, getD, take}
-use Rattle.std.proofs.shelf.Lists.{append-nil, append-assoc, take-more}
+use Rattle.std.proofs.shelf.Lists.{append-assoc, take-more}
 use Rattle.theory.proofs.Owed.{owed-refusal}
 use Rattle.theory.proofs.Sequences.{after, after-push, fires-push, fires-last, enabled-same}
 use Rattle.theory.specs.Nets as N
@@ -30,13 +30,6 @@ pub record Going {W : Type 0} (w : Ghosts W) (net : Net W) (start now : List W) 
   pub marking : (p : ℕ) → p < length (view w net .places) → marks w now p ≡ after (test-and-flip (view w net)) (marks w start) (take steps run) p
 
 module _ {W : Type 0} (w : Ghosts W) (net : Net W) (start : List W) (run : List ℕ) where
-  pub going-none : Going w net start start run 0
-  going-none = record {
-    stands = λ before so. subst (Stands w net start) (sym (append-nil before)) so;
-    fires = tt;
-    marking = λ p h. refl;
-  }
-
   -- a step of the run, its style's cells, and the values now
   module _ (now : List W) (steps : ℕ) (going : Going w net start now run steps) (here : steps < length run) (cells : List P.Cell) (row : cells ≡ map (λ p. P.cell p (getD run steps 0)) (view w net .places)) (proper : N.Proper (view w net)) (below : (i : ℕ) → getD (map (w .number) now) i 0 < w .order) (known : getD run steps 0 < view w net .styles) where
     longer : take (steps + 1) run ≡ take steps run ++ getD run steps 0 ∷ []

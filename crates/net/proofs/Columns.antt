@@ -2,7 +2,7 @@
 use Prim.Native.Nat.{ℕ, _+_, _*_, _/_, _%_, _<_}
 use mathlib.Core.List.{List, [], _∷_, map}
 use mathlib.Core.Logic.{⊎-elim}
-use mathlib.Core.Path.{_≡_, refl, sym, ap, _∙_}
+use mathlib.Core.Path.{_≡_, sym, ap, _∙_}
 use native.Mathlib.Omega.{arith}
 use lib.ListN.{length, getD, set}
 use Rattle.std.proofs.shelf.Bits.{mod-mul-add, div-mul-add, mul-add-lt}
@@ -18,13 +18,6 @@ pub same-column : (w a i b j : ℕ) → i < w → j < w → a * w + i ≡ b * w 
 same-column w a i b j hi hj e = sym (mod-mul-add a w i hi) ∙ ap (λ z. z % w) e ∙ mod-mul-add b w j hj
 
 module _ {X : Type 0} (before : List X) (width column : ℕ) (values : List X) where
-  pub column-none : ColumnWritten before width column values 0 before
-  column-none = record {
-    long = refl;
-    written = λ row d h. absurd (omega arith);
-    kept = λ row i d h apart. refl;
-  }
-
   pub column-more : (rows : ℕ) (x : X) (now : List X) → column < width → rows * width + column < length now → ((d : X) → x ≡ getD values rows d) → ColumnWritten before width column values rows now → ColumnWritten before width column values (rows + 1) (set now (rows * width + column) x)
   column-more rows x now within room reads so-far = record {
     long = length-set now (rows * width + column) x ∙ so-far .long;

@@ -59,12 +59,6 @@ module _ {W : Type 0} (w : Ghosts W) where
   put-laid n starts cells after i start values within count size so =
       ap (λ ps. record { order = w .order; styles = n; places = ps }) (same-lists _ _ long each)
     where
-      p : ℕ
-      p = length starts
-
-      P′ : P.Place
-      P′ = record { start = w .number start; cells = map (cellOf w) values }
-
       column : ColumnWritten (map (cellOf w) cells) (length starts) i (map (cellOf w) values) (length values) (map (cellOf w) after)
       column = column-mapped (cellOf w) cells (length starts) i values after within (size ∙ ap (λ z. z * length starts) (sym count)) so
 

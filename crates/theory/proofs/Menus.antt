@@ -37,13 +37,6 @@ top-bit n menu small =
     ap (λ z. (menu + z) / 2 ^ n % 2) (omega arith)
     ∙ ap (λ z. z % 2) (add-mul-div-right menu 1 {z = 2 ^ n} (pow-pos n) ∙ ap (λ z. z + 1) (div-eq-of-lt small))
 
-pub filled-none : (P : ℕ → Type 0) → Filled P 0 0
-filled-none P = record {
-  small = omega arith;
-  only-these = λ t h. absurd (omega arith);
-  all-these = λ t h. absurd (omega arith);
-}
-
 module _ (P : ℕ → Type 0) (n menu : ℕ) (so-far : Filled P n menu) where
   pub filled-set : P n → Filled P (n + 1) (menu + 2 ^ n)
   filled-set here = record {
