@@ -139,7 +139,7 @@ module _ (M : N.Net) where
   enabled_free style values proper below known on =
       subst (NoneRefuses (map (λ p. P.cell p style) M.places) values) (sym (row_long style)) (enabled_none M style _ values refl proper below known on)
 
-module _ {W : Type 0} (w : Ghosts W) (net : Net W) where
+module _ {W : Type 0} (w : Ghosts W) (net : Net W w) where
   -- a fresh galley shows the start values
   pub stands_fresh : N.Proper (view w net) → (values : List W) → map w.number values ≡ map (λ p. p.start) (view w net).places → Stands w net values []
   stands_fresh proper values starts = record {

@@ -20,12 +20,12 @@ abbrev pub marks : {W : Type 0} → Ghosts W → List W → Marking
 marks w values = λ p. get_or (map w.number values) p 0
 
 -- the first steps of the run have been set, from the values at the start to those now
-pub record Going {W : Type 0} (w : Ghosts W) (net : Net W) (start now : List W) (run : List ℕ) (steps : ℕ) : Type 0 where
+pub record Going {W : Type 0} (w : Ghosts W) (net : Net W w) (start now : List W) (run : List ℕ) (steps : ℕ) : Type 0 where
   pub stands : (before : List ℕ) → Stands w net start before → Stands w net now (before ++ take steps run)
   pub fires : Fires (test_and_flip (view w net)) (marks w start) (take steps run)
   pub marking : (p : ℕ) → p < length (view w net).places → marks w now p ≡ after (test_and_flip (view w net)) (marks w start) (take steps run) p
 
-module _ {W : Type 0} (w : Ghosts W) (net : Net W) (start : List W) (run : List ℕ) where
+module _ {W : Type 0} (w : Ghosts W) (net : Net W w) (start : List W) (run : List ℕ) where
   -- a step of the run, its style's cells, and the values now
   module _ (now : List W) (steps : ℕ) (going : Going w net start now run steps) (here : steps < length run) (cells : List P.Cell) (row : cells ≡ map (λ p. P.cell p (get_or run steps 0)) (view w net).places) (proper : N.Proper (view w net)) (below : (i : ℕ) → get_or (map w.number now) i 0 < w.order) (known : get_or run steps 0 < (view w net).styles) where
     longer : take (steps + 1) run ≡ take steps run ++ get_or run steps 0 ∷ []

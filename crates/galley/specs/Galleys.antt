@@ -9,13 +9,13 @@ use Rattle.galley.specs.declared.galleys.Galley.{Galley}
 
 module _ {W : Type 0} (w : Ghosts W) where
   -- the net that the galley stands on
-  abbrev pub net_of : Galley W → N.Net
+  abbrev pub net_of : Galley W w → N.Net
   net_of g = view w g.net.now
 
   -- what each place shows, as a marking of the Test and Flip net that the galley's net stands for
-  abbrev pub marking : Galley W → Marking
+  abbrev pub marking : Galley W w → Marking
   marking g = λ p. slice_index (map w.number (vec_items g.shown)) p
 
   -- the galley stands on its net having set the run
-  abbrev pub HasSet : Galley W → List ℕ → Type 0
+  abbrev pub HasSet : Galley W w → List ℕ → Type 0
   HasSet g run = Stands w g.net.now (vec_items g.shown) run

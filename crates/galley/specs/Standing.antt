@@ -8,6 +8,6 @@ use Rattle.net.specs.Views.{view}
 use Rattle.net.specs.declared.nets.Net.{Net}
 
 -- the run was accepted, one style after the other, and the values are what the places show at its position
-pub record Stands {W : Type 0} (w : Ghosts W) (net : Net W) (values : List W) (run : List ℕ) : Type 0 where
+pub record Stands {W : Type 0} (w : Ghosts W) (net : Net W w) (values : List W) (run : List ℕ) : Type 0 where
   pub accepted : Accepted (view w net) run
   pub showing : map w.number values ≡ map (λ p. shows w.order p (position w.order run)) (view w net).places

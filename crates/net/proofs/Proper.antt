@@ -19,15 +19,15 @@ pub record Lawful {W : Type 0} (w : Ghosts W) : Type 0 where
 
 module _ {W : Type 0} (w : Ghosts W) where
   -- the number of places, as the code counts it
-  pub places_counted : (net : Net W) → vec_len net.starts ≡ length (view w net).places
+  pub places_counted : (net : Net W w) → vec_len net.starts ≡ length (view w net).places
   places_counted net = net.starts.ok.0 ∙ sym (laid_places w net.styles (vec_items net.starts) (vec_items net.cells))
 
   -- the number of cells
-  pub cells_counted : (net : Net W) → length (vec_items net.cells) ≡ net.styles * length (vec_items net.starts)
+  pub cells_counted : (net : Net W w) → length (vec_items net.cells) ≡ net.styles * length (vec_items net.starts)
   cells_counted net = sym net.cells.ok.0 ∙ net.one_cell_each ∙ ap (λ z. net.styles * z) net.starts.ok.0
 
   -- the row of a style ends within the table
-  pub row_within : (net : Net W) (style p : ℕ) (cells : List (Cell W)) → style < net.styles → p ≡ vec_len net.starts → cells ≡ vec_items net.cells → style * p + p ≤ length cells
+  pub row_within : (net : Net W w) (style p : ℕ) (cells : List (Cell W)) → style < net.styles → p ≡ vec_len net.starts → cells ≡ vec_items net.cells → style * p + p ≤ length cells
   row_within net style p cells below count e =
       row_room net.styles p style (length cells) below (ap length e ∙ cells_counted net ∙ ap (λ z. net.styles * z) (sym (count ∙ net.starts.ok.0)))
 
@@ -57,7 +57,7 @@ module _ {W : Type 0} (w : Ghosts W) where
           subst (CellOn w.order) (sym (get_or-map-range_with_len (cell_at w starts cells i) 0 n style style idle h (omega arith))) (cell_below cells _);
     }
 
-    pub proper : (net : Net W) → Proper (view w net)
+    pub proper : (net : Net W w) → Proper (view w net)
     proper net =
         let places = places_counted net in
         record {

@@ -23,14 +23,14 @@ with_place M i p = record { order = M.order; styles = M.styles; places = slice_s
 
 module _ {W : Type 0} (w : Ghosts W) where
   -- the number of styles is tested first, then the number of places, and then memory is asked for
-  abbrev pub IdleOwes : ℕ → ℕ → Result (Net W) NetError → Type 0
+  abbrev pub IdleOwes : ℕ → ℕ → Result (Net W w) NetError → Type 0
   IdleOwes styles places (Ok net) = StyleCountGood styles × (places ≤ place_limit) × (view w net ≡ idle_net w styles places)
   IdleOwes styles places (Err (StyleCount s)) = (s ≡ styles) × (StyleCountGood styles → ⊥)
   IdleOwes styles places (Err (PlaceCount p)) = (p ≡ places) × StyleCountGood styles × (place_limit < places)
   IdleOwes styles places (Err OutOfMemory) = StyleCountGood styles × (places ≤ place_limit)
 
   -- the number of the place is tested first, then the number of cells
-  abbrev pub PutOwes : Net W → ℕ → W → List (Cell W) → Net W → {E : Type 0} → Result E PlaceError → Type 0
+  abbrev pub PutOwes : Net W w → ℕ → W → List (Cell W) → Net W w → {E : Type 0} → Result E PlaceError → Type 0
   PutOwes before i start cells after (Ok _) =
       (i < length (view w before).places) × (length cells ≡ (view w before).styles)
       × (view w after ≡ with_place (view w before) i (record { start = w.number start; cells = map (cell_of w) cells }))

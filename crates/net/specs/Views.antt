@@ -13,7 +13,7 @@ abbrev pub idle : P.Cell
 idle = record { wanted = None; turn = 0 }
 
 -- how many places a net has, as the code counts them
-abbrev pub place_count : {W : Type 0} → Net W → ℕ
+abbrev pub place_count : {W : Type 0} {w : Ghosts W} → Net W w → ℕ
 place_count net = vec_len net.starts
 
 module _ {W : Type 0} (w : Ghosts W) where
@@ -31,11 +31,11 @@ module _ {W : Type 0} (w : Ghosts W) where
   abbrev pub laid_out : ℕ → List W → List (Cell W) → N.Net
   laid_out styles starts cells = record { order = w.order; styles = styles; places = map (place_at styles starts cells) (range_with_len 0 (length starts)) }
 
-  abbrev pub view : Net W → N.Net
+  abbrev pub view : Net W w → N.Net
   view net = laid_out net.styles (vec_items net.starts) (vec_items net.cells)
 
   -- these are the cells of all places for one style
-  pub record CellsFor (net : Net W) (style : ℕ) (cells : List (Cell W)) : Type 0 where
+  pub record CellsFor (net : Net W w) (style : ℕ) (cells : List (Cell W)) : Type 0 where
     pub known : style < net.styles
     pub row : map cell_of cells ≡ map (λ p. P.cell p style) (view net).places
     pub count : length cells ≡ place_count net

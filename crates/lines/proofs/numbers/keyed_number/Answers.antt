@@ -15,11 +15,11 @@ pub returns-in-err-literal : goal.returns-in-err-literal
 returns-in-err-literal c =
     rw c.from-residual.ensures
     (record {
-      reads-a-number-after-the-key = λ v rest h.
-          c.in-err-literal.ensures.gives-what-follows-the-key (decimal v ++ (10 ∷ rest)) (h.opens ∙ append_assoc c.args.key.now (decimal v) (10 ∷ rest));
+      reads_a_number_after_the_key = λ v rest h.
+          c.in-err-literal.ensures.gives_what_follows_the_key (decimal v ++ (10 ∷ rest)) (h.opens ∙ append_assoc c.args.key.now (decimal v) (10 ∷ rest));
     })
 
 pub returns : goal.returns
 returns c = record {
-  reads-a-number-after-the-key = read c.args.key.now c.args.bytes.now c.in-ok-literal.field-0.now c.args.low c.args.high c.number.result c.in-ok-literal.ensures.gives-what-follows-the-key c.number.ensures.reads-a-number-from-low-to-high;
+  reads_a_number_after_the_key = read c.args.key.now c.args.bytes.now c.in-ok-literal.field-0.now c.args.low c.args.high c.number.result c.in-ok-literal.ensures.gives_what_follows_the_key c.number.ensures.reads_a_number_from_low_to_high;
 }

@@ -5,7 +5,7 @@ use Rattle.lines.proofs.numbers.number.Goals as goal
 pub returns-then-value-low : goal.returns-then-value-low
 returns-then-value-low c =
     record {
-      reads-a-number-from-low-to-high = λ v rest h.
-          let same = (one_number c.in-ok-value.ensures.reads-a-number h).0 in
+      reads_a_number_from_low_to_high = λ v rest h.
+          let same = (one_number c.in-ok-value.ensures.reads_a_number h).0 in
           omega arith;
     }

@@ -6,13 +6,13 @@ use Rattle.lines.proofs.words.style_line.Goals.{in-default-via-then-after-lt1, i
 
 pub returns-in-10 : goal.returns-in-10
 returns-in-10 c = record {
-  reads-a-styles-line = named c.args.bytes.now c.in-ok-literal.field-0.now c.in-ok-name.name.now c.in-ok-name.after.now _ c.in-ok-literal.ensures.gives-what-follows-the-key c.in-ok-name.ensures.splits-off-the-first-word (opened c.in-ok-name.after.now 10 (omega (arith, ltb-false)) (omega arith));
+  reads_a_styles_line = named c.args.bytes.now c.in-ok-literal.field-0.now c.in-ok-name.name.now c.in-ok-name.after.now _ c.in-ok-literal.ensures.gives_what_follows_the_key c.in-ok-name.ensures.splits_off_the_first_word (opened c.in-ok-name.after.now 10 (omega (arith, ltb-false)) (omega arith));
 }
 
 pub returns-in-default : goal.returns-in-default
 returns-in-default c =
     record {
-      reads-a-styles-line = λ name rest h.
-          let same = (one_word c.in-ok-name.ensures.splits-off-the-first-word (name_first c.args.bytes.now c.in-ok-literal.field-0.now name rest c.in-ok-literal.ensures.gives-what-follows-the-key h)).1 in
+      reads_a_styles_line = λ name rest h.
+          let same = (one_word c.in-ok-name.ensures.splits_off_the_first_word (name_first c.args.bytes.now c.in-ok-literal.field-0.now name rest c.in-ok-literal.ensures.gives_what_follows_the_key h)).1 in
           elim c.in-default.branch [ in-default-via-then-after-lt1 w ↦ omega (arith, ltb-true, ap length same) | in-default-via-else-after-lt1+in-default· w ↦ omega (arith, first same) ];
     }

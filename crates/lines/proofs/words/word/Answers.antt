@@ -5,8 +5,8 @@ use Rattle.lines.proofs.words.word.Goals as goal
 pub returns-then-count-eq0 : goal.returns-then-count-eq0
 returns-then-count-eq0 c =
     record {
-      splits-off-the-first-word = λ w rest h.
-          let count = word_counted c.args.bytes.now w rest c.name-length-count.result h c.name-length-count.ensures.counts-the-name-bytes-in-front in
+      splits_off_the_first_word = λ w rest h.
+          let count = word_counted c.args.bytes.now w rest c.name-length-count.result h c.name-length-count.ensures.counts_the_name_bytes_in_front in
           omega (arith, h.formed.some, h.formed.few);
     }
 
@@ -14,5 +14,5 @@ pub returns : goal.returns
 returns c =
     let some : 1 ≤ c.name-length-count.result = omega arith in
     record {
-      splits-off-the-first-word = rw (c.split-at.ensures.front, c.split-at.ensures.back) (counted_word c.args.bytes.now c.name-length-count.result some c.if-count-gt-NAME-LIMIT.false c.name-length-count.ensures.counts-the-name-bytes-in-front);
+      splits_off_the_first_word = rw (c.split-at.ensures.front, c.split-at.ensures.back) (counted_word c.args.bytes.now c.name-length-count.result some c.if-count-gt-NAME-LIMIT.false c.name-length-count.ensures.counts_the_name_bytes_in_front);
     }

@@ -5,7 +5,7 @@ use Rattle.net_reading.proofs.cells.cell.Goals as goal
 pub returns-in-err-turn : goal.returns-in-err-turn
 returns-in-err-turn g c =
     rw c.from-residual-in-err-turn.ensures
-    record { reads-a-cell-of-the-wheel = λ cell rest on e. c.in-err-turn.ensures.reads-a-digit-of-the-wheel cell.turn on.turn_below (ap (λ bs. get_or bs 2 0) e) }
+    record { reads_a_cell_of_the_wheel = λ cell rest on e. c.in-err-turn.ensures.reads_a_digit_of_the_wheel cell.turn on.turn_below (ap (λ bs. get_or bs 2 0) e) }
 
 pub returns : goal.returns
 returns g c =
@@ -13,6 +13,6 @@ returns g c =
     let long : 3 ≤ length bytes = omega (arith, ltb-false) in
     let space : get_or bytes 0 0 ≡ 32 = omega arith in
     record {
-      reads-a-cell-of-the-wheel =
-          three_bytes bytes 32 _ _ long space c.in-ok-wanted.ensures.reads-what-is-wanted c.in-ok-turn.ensures.reads-a-digit-of-the-wheel;
+      reads_a_cell_of_the_wheel =
+          three_bytes bytes 32 _ _ long space c.in-ok-wanted.ensures.reads_what_is_wanted c.in-ok-turn.ensures.reads_a_digit_of_the_wheel;
     }

@@ -12,8 +12,8 @@ pub returns-then-not-is-empty : goal.returns-then-not-is-empty
 returns-then-not-is-empty c =
     let some = allowed _ _ _ c.in-ok-rest.ensures.value in
     record {
-      at-the-end-or-faulty =
-          extra {rest = c.in-ok-rest.rest.now} (rw add-one at c.form-then-not-is-empty.ensures.is-a-fault-of-form) (MatchOption-at_some _ _ _ some c.literal.ensures.gives-what-follows-the-key)
+      at_the_end_or_faulty =
+          extra {rest = c.in-ok-rest.rest.now} (rw add-one at c.form-then-not-is-empty.ensures.is_a_fault_of_form) (MatchOption-at_some _ _ _ some c.literal.ensures.gives_what_follows_the_key)
           (λ e. eqb-false _ 0 (sym c.if-not-is-empty.ensures) (ap length e));
     }
 
@@ -22,5 +22,5 @@ returns c =
     let some = allowed _ _ _ c.in-ok-rest.ensures.value in
     let none : c.in-ok-rest.rest.now ≡ [] = nil_from_length _ (eqb-true _ 0 (sym c.if-not-is-empty.ensures)) in
     record {
-      at-the-end-or-faulty = MatchOption-at_some _ _ _ some c.literal.ensures.gives-what-follows-the-key ∙ ap (λ r. net_end ++ (line_feed ∷ r)) none;
+      at_the_end_or_faulty = MatchOption-at_some _ _ _ some c.literal.ensures.gives_what_follows_the_key ∙ ap (λ r. net_end ++ (line_feed ∷ r)) none;
     }

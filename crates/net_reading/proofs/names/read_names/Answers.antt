@@ -12,10 +12,10 @@ pub returns-in-err-rest : goal.returns-in-err-rest
 returns-in-err-rest c =
     let p = err_from_is_err_and c.from-residual.result c.from-residual.ensures.1 in
     let so_far = c.loop-style.invariant in
-    let broken = c.in-err-rest.ensures.adds-the-name-or-tells-what-is-wrong in
+    let broken = c.in-err-rest.ensures.adds_the_name_or_tells_what_is_wrong in
     rw (p.1, p.2)
     record {
-      reads-every-name-or-tells-where-they-break-off = record {
+      reads_every_name_or_tells_where_they_break_off = record {
         names = names_of c.loop-style.sheet;
         rest = c.loop-style.rest.now;
         sheet = names_formed c.loop-style.sheet;
@@ -29,7 +29,7 @@ returns-in-err-rest c =
 pub loop-style-preserved : goal.loop-style-preserved
 loop-style-preserved c =
     let so_far = c.loop-style.invariant in
-    let added = c.in-ok-rest.ensures.adds-the-name-or-tells-what-is-wrong in
+    let added = c.in-ok-rest.ensures.adds_the_name_or_tells_what_is_wrong in
     let names = names_of c.loop-style.sheet in (
       ap length added.3 ∙ length_push names added.0 ∙ ap (λ n. n + 1) so_far.0,
       lines_more (map style_line names) (style_line added.0) c.args.bytes.now c.loop-style.rest.now c.in-ok-rest.rest.now so_far.1 added.1.opens

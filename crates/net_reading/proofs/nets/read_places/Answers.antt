@@ -15,13 +15,13 @@ lawful g = let laws = g.met.W.Wheel in record { from_two = laws.at_least_two; to
 pub overflow-add-len-in-loop-place : goal.overflow-add-len-in-loop-place
 overflow-add-len-in-loop-place g c =
     let good = proper g.W.Wheel (lawful g) c.args.net.now in
-    let small : 5 + c.len.result + c.loop-place.place < 1000 = omega (arith, good.few_styles, good.few_places, c.loop-place.invariant.one_cell_each, c.place_line.ensures.as-many-cells-as-before) in
+    let small : 5 + c.len.result + c.loop-place.place < 1000 = omega (arith, good.few_styles, good.few_places, c.loop-place.invariant.one_cell_each, c.place_line.ensures.as_many_cells_as_before) in
     search rules
 
 pub overflow-cast-len : goal.overflow-cast-len
 overflow-cast-len g c =
     let good = proper g.W.Wheel (lawful g) c.args.net.now in
-    let small : 5 + c.len.result + c.loop-place.place < 1000 = omega (arith, good.few_styles, good.few_places, c.loop-place.invariant.one_cell_each, c.place_line.ensures.as-many-cells-as-before) in
+    let small : 5 + c.len.result + c.loop-place.place < 1000 = omega (arith, good.few_styles, good.few_places, c.loop-place.invariant.one_cell_each, c.place_line.ensures.as_many_cells_as_before) in
     search rules
 
 pub returns-in-err-start : goal.returns-in-err-start
@@ -30,27 +30,27 @@ returns-in-err-start g c =
     let none = refused _ _ _ c.in-err-start.ensures.value in
     rw (p.1, p.2)
     record {
-      reads-every-place-or-tells-where-they-break-off =
-          places_break c.loop-place.invariant (proper g.W.Wheel (lawful g) c.loop-place.net) refl c.in-err-start.field-0.0 (omega (arith, c.places-place-end.ensures.counts-the-places))
-          (MatchOption-at_none _ _ none.0 c.place_line.ensures.reads-a-places-line)
-          (none.1 ∙ ap (λ (n : ℕ). record { line = 5 + n + c.loop-place.place; cause = Form }) (c.len.ensures ∙ c.place_line.ensures.as-many-cells-as-before));
+      reads_every_place_or_tells_where_they_break_off =
+          places_break c.loop-place.invariant (proper g.W.Wheel (lawful g) c.loop-place.net) refl c.in-err-start.field-0.0 (omega (arith, c.places-place-end.ensures.counts_the_places))
+          (MatchOption-at_none _ _ none.0 c.place_line.ensures.reads_a_places_line)
+          (none.1 ∙ ap (λ (n : ℕ). record { line = 5 + n + c.loop-place.place; cause = Form }) (c.len.ensures ∙ c.place_line.ensures.as_many_cells_as_before));
     }
 
 pub loop-place-preserved : goal.loop-place-preserved
 loop-place-preserved g c =
     let some = allowed _ _ _ c.in-ok-start.ensures.value in
-    let more = place_more c.loop-place.invariant _ c.in-ok-start.after.now (view g.W.Wheel c.put.new.net) (MatchOption-at_some _ _ _ some c.place_line.ensures.reads-a-places-line) (omega (arith, c.places-place-end.ensures.counts-the-places)) c.put.ensures.replaces-the-place in
+    let more = place_more c.loop-place.invariant _ c.in-ok-start.after.now (view g.W.Wheel c.put.new.net) (MatchOption-at_some _ _ _ some c.place_line.ensures.reads_a_places_line) (omega (arith, c.places-place-end.ensures.counts_the_places)) c.put.ensures.replaces_the_place in
     record {
       as_many_styles = more.as_many_styles;
       as_many_places = more.as_many_places;
-      one_cell_each = c.place_line.ensures.as-many-cells-as-before ∙ more.one_cell_each;
+      one_cell_each = c.place_line.ensures.as_many_cells_as_before ∙ more.one_cell_each;
       opened = more.opened;
     }
 
 pub returns : goal.returns
 returns g c =
     let so_far = c.loop-place.invariant in
-    let all : c.loop-place.place ≡ length (view g.W.Wheel c.args.net.now).places = omega (arith, c.places-place-end.ensures.counts-the-places) in
+    let all : c.loop-place.place ≡ length (view g.W.Wheel c.args.net.now).places = omega (arith, c.places-place-end.ensures.counts_the_places) in
     record {
-      reads-every-place-or-tells-where-they-break-off = (so_far.as_many_styles, so_far.as_many_places, places_all so_far (proper g.W.Wheel (lawful g) c.loop-place.net) refl all);
+      reads_every_place_or_tells_where_they_break_off = (so_far.as_many_styles, so_far.as_many_places, places_all so_far (proper g.W.Wheel (lawful g) c.loop-place.net) refl all);
     }

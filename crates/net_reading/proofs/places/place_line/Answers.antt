@@ -10,8 +10,8 @@ pub returns-in-err-start : goal.returns-in-err-start
 returns-in-err-start g c =
     rw c.from-residual-in-err-start.ensures
     record {
-      reads-a-places-line = no_start c.in-ok-literal.ensures.gives-what-follows-the-key c.in-err-start.ensures.reads-a-digit-of-the-wheel;
-      as-many-cells-as-before = refl;
+      reads_a_places_line = no_start c.in-ok-literal.ensures.gives_what_follows_the_key c.in-err-start.ensures.reads_a_digit_of_the_wheel;
+      as_many_cells_as_before = refl;
     }
 
 pub returns-in-err-read-cells : goal.returns-in-err-read-cells
@@ -19,8 +19,8 @@ returns-in-err-read-cells g c =
     let left = c.in-ok-literal.field-0.now in
     rw c.from-residual-in-err-read-cells.ensures
     record {
-      reads-a-places-line = too_few_cells c.in-ok-literal.ensures.gives-what-follows-the-key (opened left _ (omega (arith, ltb-false)) refl) c.in-err-read-cells.ensures.reads-every-cell;
-      as-many-cells-as-before = c.in-err-read-cells.ensures.as-many-cells-as-before;
+      reads_a_places_line = too_few_cells c.in-ok-literal.ensures.gives_what_follows_the_key (opened left _ (omega (arith, ltb-false)) refl) c.in-err-read-cells.ensures.reads_every_cell;
+      as_many_cells_as_before = c.in-err-read-cells.ensures.as_many_cells_as_before;
     }
 
 pub returns-in-10 : goal.returns-in-10
@@ -28,23 +28,23 @@ returns-in-10 g c =
     let left = c.in-ok-literal.field-0.now in
     let rest = c.in-ok-read-cells.field-0.now in
     record {
-      reads-a-places-line =
-          place_read c.in-ok-literal.ensures.gives-what-follows-the-key (opened left _ (omega (arith, ltb-false)) refl) (g.W.Wheel.number c.in-ok-start.start) _ rest (after rest) c.in-ok-start.ensures.reads-a-digit-of-the-wheel c.in-ok-read-cells.ensures.reads-every-cell (opened rest _ (omega (arith, ltb-false)) (omega arith));
-      as-many-cells-as-before = c.in-ok-read-cells.ensures.as-many-cells-as-before;
+      reads_a_places_line =
+          place_read c.in-ok-literal.ensures.gives_what_follows_the_key (opened left _ (omega (arith, ltb-false)) refl) (g.W.Wheel.number c.in-ok-start.start) _ rest (after rest) c.in-ok-start.ensures.reads_a_digit_of_the_wheel c.in-ok-read-cells.ensures.reads_every_cell (opened rest _ (omega (arith, ltb-false)) (omega arith));
+      as_many_cells_as_before = c.in-ok-read-cells.ensures.as_many_cells_as_before;
     }
 
 pub returns-in-default-2 : goal.returns-in-default-2
 returns-in-default-2 g c =
     let left = c.in-ok-literal.field-0.now in
-    let cells = vec_items c.read-cells.new.cells in
-    let count : length (map (cell_of g.W.Wheel) cells) ≡ _ = length-map cells (cell_of g.W.Wheel) ∙ sym c.read-cells.new.cells.ok.0 ∙ c.in-ok-read-cells.ensures.as-many-cells-as-before in
+    let cells = vec_items c.read_cells.new.cells in
+    let count : length (map (cell_of g.W.Wheel) cells) ≡ _ = length-map cells (cell_of g.W.Wheel) ∙ sym c.read_cells.new.cells.ok.0 ∙ c.in-ok-read-cells.ensures.as_many_cells_as_before in
     record {
-      reads-a-places-line =
-          no_end c.in-ok-literal.ensures.gives-what-follows-the-key (opened left _ (omega (arith, ltb-false)) refl) (map (cell_of g.W.Wheel) cells) c.in-ok-read-cells.field-0.now c.in-ok-read-cells.ensures.reads-every-cell count
+      reads_a_places_line =
+          no_end c.in-ok-literal.ensures.gives_what_follows_the_key (opened left _ (omega (arith, ltb-false)) refl) (map (cell_of g.W.Wheel) cells) c.in-ok-read-cells.field-0.now c.in-ok-read-cells.ensures.reads_every_cell count
           (λ more e.
           elim c.in-default-2.branch [
             | in-default-2-via-then-branch-lt1-2 w ↦ omega (arith, ltb-true, ap length e)
             | in-default-2-via-else-branch-lt1-2+in-default· w ↦ omega (arith, first e)
           ]);
-      as-many-cells-as-before = c.in-ok-read-cells.ensures.as-many-cells-as-before;
+      as_many_cells_as_before = c.in-ok-read-cells.ensures.as_many_cells_as_before;
     }

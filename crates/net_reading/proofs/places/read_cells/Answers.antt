@@ -14,8 +14,8 @@ returns-in-err-read g c =
     let count : length read ≡ style = length-map (take style items) (cell_of g.W.Wheel) ∙ length-take-le style items (omega (arith, c.loop-style.cells.ok.0, c.loop-style.invariant.1)) in
     rw c.from-residual.ensures
     record {
-      reads-every-cell = no_cells g.W.Wheel.order _ read c.args.bytes.now c.loop-style.rest.now (omega (arith, count)) c.loop-style.invariant.0 c.in-err-read.ensures.reads-a-cell-of-the-wheel;
-      as-many-cells-as-before = c.loop-style.invariant.1;
+      reads_every_cell = no_cells g.W.Wheel.order _ read c.args.bytes.now c.loop-style.rest.now (omega (arith, count)) c.loop-style.invariant.0 c.in-err-read.ensures.reads_a_cell_of_the_wheel;
+      as_many_cells_as_before = c.loop-style.invariant.1;
     }
 
 pub loop-style-preserved : goal.loop-style-preserved
@@ -26,7 +26,7 @@ loop-style-preserved g c =
     let within : style < length items = omega (arith, c.loop-style.cells.ok.0, c.loop-style.invariant.1) in
     let more : map (cell_of g.W.Wheel) (take (style + 1) (set items style one)) ≡ map (cell_of g.W.Wheel) (take style items) ++ (cell_of g.W.Wheel one ∷ []) =
     ap (map (cell_of g.W.Wheel)) (take_more_set items style one within) ∙ map_push (cell_of g.W.Wheel) (take style items) one in (
-      cells_more (map (cell_of g.W.Wheel) (take style items)) (cell_of g.W.Wheel one) c.args.bytes.now c.loop-style.rest.now c.in-ok-read.after.now c.loop-style.invariant.0 c.in-ok-read.ensures.reads-a-cell-of-the-wheel
+      cells_more (map (cell_of g.W.Wheel) (take style items)) (cell_of g.W.Wheel one) c.args.bytes.now c.loop-style.rest.now c.in-ok-read.after.now c.loop-style.invariant.0 c.in-ok-read.ensures.reads_a_cell_of_the_wheel
           ∙ ap (λ cs. flat_map cell_bytes cs ++ c.in-ok-read.after.now) (sym more),
       c.loop-style.invariant.1,
     )
@@ -35,7 +35,7 @@ pub returns : goal.returns
 returns g c =
     let items = vec_items c.loop-style.cells in
     record {
-      reads-every-cell =
+      reads_every_cell =
           c.loop-style.invariant.0 ∙ ap (λ cs. flat_map cell_bytes (map (cell_of g.W.Wheel) cs) ++ c.loop-style.rest.now) (take_all c.loop-style.style items (omega (arith, c.loop-style.cells.ok.0, c.loop-style.invariant.1)));
-      as-many-cells-as-before = c.loop-style.invariant.1;
+      as_many_cells_as_before = c.loop-style.invariant.1;
     }

@@ -21,81 +21,81 @@ lawful g = let laws = g.met.W.Wheel in record { from_two = laws.at_least_two; to
 pub returns-in-err-rest : goal.returns-in-err-rest
 returns-in-err-rest g c =
     let p = err_from_is_err_and c.from-residual-in-err-rest.result c.from-residual-in-err-rest.ensures.1 in
-    let three = three_read g.W.Wheel (lawful g) c.positions.result c.in-ok-styles.styles c.args.text.now c.in-ok-styles.rest.now c.positions.ensures.is-the-order c.in-ok-styles.ensures.reads-three-lines-or-tells-the-first-fault in
+    let three = three_read g.W.Wheel (lawful g) c.positions.result c.in-ok-styles.styles c.args.text.now c.in-ok-styles.rest.now c.positions.ensures.is_the_order c.in-ok-styles.ensures.reads_three_lines_or_tells_the_first_fault in
     rw (p.1, p.2)
     record {
-      reads-the-net-or-tells-the-first-fault = names_fault three c.in-err-rest.field-0.0 c.in-err-rest.ensures.reads-every-name-or-tells-where-they-break-off;
+      reads_the_net_or_tells_the_first_fault = names_fault three c.in-err-rest.field-0.0 c.in-err-rest.ensures.reads_every_name_or_tells_where_they_break_off;
     }
 
 pub returns-in-err-places : goal.returns-in-err-places
 returns-in-err-places g c =
     let p = err_from_is_err_and c.from-residual-in-err-places.result c.from-residual-in-err-places.ensures.1 in
     let none = refused _ _ _ c.in-err-places.ensures.value in
-    let three = three_read g.W.Wheel (lawful g) c.positions.result c.in-ok-styles.styles c.args.text.now c.in-ok-styles.rest.now c.positions.ensures.is-the-order c.in-ok-styles.ensures.reads-three-lines-or-tells-the-first-fault in
-    let names = c.in-ok-rest.ensures.reads-every-name-or-tells-where-they-break-off in
+    let three = three_read g.W.Wheel (lawful g) c.positions.result c.in-ok-styles.styles c.args.text.now c.in-ok-styles.rest.now c.positions.ensures.is_the_order c.in-ok-styles.ensures.reads_three_lines_or_tells_the_first_fault in
+    let names = c.in-ok-rest.ensures.reads_every_name_or_tells_where_they_break_off in
     rw (p.1, p.2)
     record {
-      reads-the-net-or-tells-the-first-fault =
-          places_line_fault three (names_formed c.read-names.new.sheet) names.0 names.1 c.in-err-places.field-0.0 (none.1 ∙ c.form.ensures.is-a-fault-of-form) (MatchOption-at_none _ _ none.0 c.keyed-number.ensures.reads-a-number-after-the-key);
+      reads_the_net_or_tells_the_first_fault =
+          places_line_fault three (names_formed c.read_names.new.sheet) names.0 names.1 c.in-err-places.field-0.0 (none.1 ∙ c.form.ensures.is_a_fault_of_form) (MatchOption-at_none _ _ none.0 c.keyed_number.ensures.reads_a_number_after_the_key);
     }
 
 pub returns-in-err-rest-2 : goal.returns-in-err-rest-2
 returns-in-err-rest-2 g c =
     let w = g.W.Wheel in
     let p = err_from_is_err_and c.from-residual-in-err-rest-2.result c.from-residual-in-err-rest-2.ensures.1 in
-    let three = three_read w (lawful g) c.positions.result c.in-ok-styles.styles c.args.text.now c.in-ok-styles.rest.now c.positions.ensures.is-the-order c.in-ok-styles.ensures.reads-three-lines-or-tells-the-first-fault in
-    let names = c.in-ok-rest.ensures.reads-every-name-or-tells-where-they-break-off in
-    let counted = MatchOption-at_some _ _ _ (allowed _ _ _ c.in-ok-places.ensures.value) c.keyed-number.ensures.reads-a-number-after-the-key in
-    let idle = c.in-ok-net.ensures.made-idle-or-out-of-memory in
+    let three = three_read w (lawful g) c.positions.result c.in-ok-styles.styles c.args.text.now c.in-ok-styles.rest.now c.positions.ensures.is_the_order c.in-ok-styles.ensures.reads_three_lines_or_tells_the_first_fault in
+    let names = c.in-ok-rest.ensures.reads_every_name_or_tells_where_they_break_off in
+    let counted = MatchOption-at_some _ _ _ (allowed _ _ _ c.in-ok-places.ensures.value) c.keyed_number.ensures.reads_a_number_after_the_key in
+    let idle = c.in-ok-net.ensures.made_idle_or_out_of_memory in
     let styles = idle_styles w c.in-ok-net.net _ _ idle in
     let places = idle_places w c.in-ok-net.net _ _ _ idle c.from.ensures in
     rw (p.1, p.2)
     record {
-      reads-the-net-or-tells-the-first-fault =
-          places_fault three (names_formed c.read-names.new.sheet) names.0 names.1 counted c.in-err-rest-2.field-0.0
+      reads_the_net_or_tells_the_first_fault =
+          places_fault three (names_formed c.read_names.new.sheet) names.0 names.1 counted c.in-err-rest-2.field-0.0
           (subst (λ q. PlacesBreak w.order c.in-ok-styles.styles q c.in-ok-places.rest.now c.in-err-rest-2.field-0.0) places
           (subst (λ n. PlacesBreak w.order n (length (view w c.in-ok-net.net).places) c.in-ok-places.rest.now c.in-err-rest-2.field-0.0) styles
-          c.in-err-rest-2.ensures.reads-every-place-or-tells-where-they-break-off));
+          c.in-err-rest-2.ensures.reads_every_place_or_tells_where_they_break_off));
     }
 
 pub returns-in-err-read-end : goal.returns-in-err-read-end
 returns-in-err-read-end g c =
     let w = g.W.Wheel in
     let p = err_from_is_err_and c.from-residual-in-err-read-end.result c.from-residual-in-err-read-end.ensures.1 in
-    let three = three_read w (lawful g) c.positions.result c.in-ok-styles.styles c.args.text.now c.in-ok-styles.rest.now c.positions.ensures.is-the-order c.in-ok-styles.ensures.reads-three-lines-or-tells-the-first-fault in
-    let names = c.in-ok-rest.ensures.reads-every-name-or-tells-where-they-break-off in
-    let counted = MatchOption-at_some _ _ _ (allowed _ _ _ c.in-ok-places.ensures.value) c.keyed-number.ensures.reads-a-number-after-the-key in
-    let idle = c.in-ok-net.ensures.made-idle-or-out-of-memory in
+    let three = three_read w (lawful g) c.positions.result c.in-ok-styles.styles c.args.text.now c.in-ok-styles.rest.now c.positions.ensures.is_the_order c.in-ok-styles.ensures.reads_three_lines_or_tells_the_first_fault in
+    let names = c.in-ok-rest.ensures.reads_every_name_or_tells_where_they_break_off in
+    let counted = MatchOption-at_some _ _ _ (allowed _ _ _ c.in-ok-places.ensures.value) c.keyed_number.ensures.reads_a_number_after_the_key in
+    let idle = c.in-ok-net.ensures.made_idle_or_out_of_memory in
     let styles = idle_styles w c.in-ok-net.net _ _ idle in
     let places = idle_places w c.in-ok-net.net _ _ _ idle c.from.ensures in
-    let read = c.in-ok-rest-2.ensures.reads-every-place-or-tells-where-they-break-off in
+    let read = c.in-ok-rest-2.ensures.reads_every_place_or_tells_where_they_break_off in
     let end_line : 4 + c.in-ok-styles.styles + 1 + c.from-2.result ≡ 5 + c.in-ok-styles.styles + c.in-ok-places.places = omega (arith, c.from-2.ensures) in
     rw (p.1, p.2)
     record {
-      reads-the-net-or-tells-the-first-fault =
-          end_fault three (names_formed c.read-names.new.sheet) names.0 names.1 counted
-          (subst (λ n. PlacesOpen w.order n c.in-ok-places.rest.now (view w c.read-places.new.net).places c.in-ok-rest-2.rest.now) styles read.2)
+      reads_the_net_or_tells_the_first_fault =
+          end_fault three (names_formed c.read_names.new.sheet) names.0 names.1 counted
+          (subst (λ n. PlacesOpen w.order n c.in-ok-places.rest.now (view w c.read_places.new.net).places c.in-ok-rest-2.rest.now) styles read.2)
           (read.1 ∙ places)
           c.in-err-read-end.field-0.0
-          (subst (λ l. NoEnd l c.in-ok-rest-2.rest.now c.in-err-read-end.field-0.0) end_line c.in-err-read-end.ensures.at-the-end-or-faulty);
+          (subst (λ l. NoEnd l c.in-ok-rest-2.rest.now c.in-err-read-end.field-0.0) end_line c.in-err-read-end.ensures.at_the_end_or_faulty);
     }
 
 pub returns : goal.returns
 returns g c =
     let w = g.W.Wheel in
-    let three = three_read w (lawful g) c.positions.result c.in-ok-styles.styles c.args.text.now c.in-ok-styles.rest.now c.positions.ensures.is-the-order c.in-ok-styles.ensures.reads-three-lines-or-tells-the-first-fault in
-    let names = c.in-ok-rest.ensures.reads-every-name-or-tells-where-they-break-off in
-    let counted = MatchOption-at_some _ _ _ (allowed _ _ _ c.in-ok-places.ensures.value) c.keyed-number.ensures.reads-a-number-after-the-key in
-    let idle = c.in-ok-net.ensures.made-idle-or-out-of-memory in
+    let three = three_read w (lawful g) c.positions.result c.in-ok-styles.styles c.args.text.now c.in-ok-styles.rest.now c.positions.ensures.is_the_order c.in-ok-styles.ensures.reads_three_lines_or_tells_the_first_fault in
+    let names = c.in-ok-rest.ensures.reads_every_name_or_tells_where_they_break_off in
+    let counted = MatchOption-at_some _ _ _ (allowed _ _ _ c.in-ok-places.ensures.value) c.keyed_number.ensures.reads_a_number_after_the_key in
+    let idle = c.in-ok-net.ensures.made_idle_or_out_of_memory in
     let styles = idle_styles w c.in-ok-net.net _ _ idle in
     let places = idle_places w c.in-ok-net.net _ _ _ idle c.from.ensures in
-    let read = c.in-ok-rest-2.ensures.reads-every-place-or-tells-where-they-break-off in
-    let whole = whole_text three (names_formed c.read-names.new.sheet) names.0 names.1 counted
-    (subst (λ n. PlacesOpen w.order n c.in-ok-places.rest.now (view w c.read-places.new.net).places c.in-ok-rest-2.rest.now) styles read.2)
-    (read.1 ∙ places) c.in-ok-read-end.ensures.at-the-end-or-faulty in
+    let read = c.in-ok-rest-2.ensures.reads_every_place_or_tells_where_they_break_off in
+    let whole = whole_text three (names_formed c.read_names.new.sheet) names.0 names.1 counted
+    (subst (λ n. PlacesOpen w.order n c.in-ok-places.rest.now (view w c.read_places.new.net).places c.in-ok-rest-2.rest.now) styles read.2)
+    (read.1 ∙ places) c.in-ok-read-end.ensures.at_the_end_or_faulty in
     record {
-      reads-the-net-or-tells-the-first-fault = (
+      reads_the_net_or_tells_the_first_fault = (
         names.0 ∙ sym (read.0 ∙ styles),
-        whole ∙ ap (λ n. net_text (net_read w.order n (view w c.read-places.new.net).places) (names_of c.read-names.new.sheet)) (sym (read.0 ∙ styles)),
+        whole ∙ ap (λ n. net_text (net_read w.order n (view w c.read_places.new.net).places) (names_of c.read_names.new.sheet)) (sym (read.0 ∙ styles)),
       );
     }

@@ -13,24 +13,24 @@ lawful g = let laws = g.met.W.Wheel in record { from_two = laws.at_least_two; to
 pub returns-in-err-net-read : goal.returns-in-err-net-read
 returns-in-err-net-read g c =
     let p = err_from_is_err_and c.from-residual.result c.from-residual.ensures.1 in
-    let first = c.in-err-net-read.ensures.reads-the-net-or-tells-the-first-fault in
+    let first = c.in-err-net-read.ensures.reads_the_net_or_tells_the_first_fault in
     rw (p.1, p.2)
     record {
-      the-net-read-has-that-text = first;
-      refused-by-the-number-and-values-of-the-first-fault = refused_by g.W.Wheel.order c.args.text.now c.in-err-net-read.field-0.0 first;
-      refused-exactly-where-it-is-no-net-text = refused_exactly g.W.Wheel.order c.args.text.now c.in-err-net-read.field-0.0 first;
-      refused-calls-change-no-net = λ _. refl;
-      refused-calls-change-no-sheet = λ _. refl;
+      the_net_read_has_that_text = first;
+      refused_by_the_number_and_values_of_the_first_fault = refused_by g.W.Wheel.order c.args.text.now c.in-err-net-read.field-0.0 first;
+      refused_exactly_where_it_is_no_net_text = refused_exactly g.W.Wheel.order c.args.text.now c.in-err-net-read.field-0.0 first;
+      refused_calls_change_no_net = λ _. refl;
+      refused_calls_change_no_sheet = λ _. refl;
     }
 
 pub returns : goal.returns
 returns g c =
-    let read = c.in-ok-net-read.ensures.reads-the-net-or-tells-the-first-fault in
+    let read = c.in-ok-net-read.ensures.reads_the_net_or_tells_the_first_fault in
     let is = accepted_exactly g.W.Wheel (lawful g) c.args.text.now c.in-ok-net-read.net_read c.in-ok-net-read.sheet-read read.0 read.1 in
     record {
-      the-net-read-has-that-text = read;
-      refused-by-the-number-and-values-of-the-first-fault = taken is;
-      refused-exactly-where-it-is-no-net-text = is;
-      refused-calls-change-no-net = λ e. absurd (false≢true e);
-      refused-calls-change-no-sheet = λ e. absurd (false≢true e);
+      the_net_read_has_that_text = read;
+      refused_by_the_number_and_values_of_the_first_fault = taken is;
+      refused_exactly_where_it_is_no_net_text = is;
+      refused_calls_change_no_net = λ e. absurd (false≢true e);
+      refused_calls_change_no_sheet = λ e. absurd (false≢true e);
     }

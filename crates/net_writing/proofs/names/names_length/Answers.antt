@@ -12,7 +12,7 @@ use Rattle.net_writing.proofs.names.names_length.Goals as goal
 pub overflow-add-bytes-in-Some-2 : goal.overflow-add-bytes-in-Some-2
 overflow-add-bytes-in-Some-2 c =
     let names = names_of c.args.sheet.now in
-    let found = c.in-Some.ensures.is-the-name-of-the-style in
+    let found = c.in-Some.ensures.is_the_name_of_the_style in
     omega (
       arith,
       c.loop-name.invariant.1,
@@ -23,13 +23,13 @@ overflow-add-bytes-in-Some-2 c =
     )
 
 pub overflow-add-style : goal.overflow-add-style
-overflow-add-style c = omega (arith, c.in-Some.ensures.is-the-name-of-the-style.0, names_few c.args.sheet.now)
+overflow-add-style c = omega (arith, c.in-Some.ensures.is_the_name_of_the_style.0, names_few c.args.sheet.now)
 
 pub loop-name-preserved : goal.loop-name-preserved
 loop-name-preserved c =
     let names = names_of c.args.sheet.now in
     let style = c.loop-name.style in
-    let found = c.in-Some.ensures.is-the-name-of-the-style in
+    let found = c.in-Some.ensures.is_the_name_of_the_style in
     let more = ap length (joined_take_more (λ name. ended (style_line name)) names style [] found.0) ∙ length-append (name_lines (take style names)) (ended (style_line (get_or names style []))) in (
       omega (arith, found.0),
       omega (arith, c.loop-name.invariant.1, ap length found.1, name_line_length (get_or names style []), more),
@@ -39,5 +39,5 @@ pub returns : goal.returns
 returns c =
     let names = names_of c.args.sheet.now in
     record {
-      counts-the-bytes = c.loop-name.invariant.1 ∙ ap (λ ns. length (name_lines ns)) (take_all c.loop-name.style names c.in-default.ensures.is-the-name-of-the-style);
+      counts_the_bytes = c.loop-name.invariant.1 ∙ ap (λ ns. length (name_lines ns)) (take_all c.loop-name.style names c.in-default.ensures.is_the_name_of_the_style);
     }

@@ -11,5 +11,5 @@ put-requires c = record { room = omega (arith, name_line_length c.args.name.now)
 
 pub returns : goal.returns
 returns c = record {
-  puts-the-line = puts_then _ _ _ _ _ _ _ _ (puts_then _ _ _ _ _ _ _ _ c.put-at.ensures.puts-the-bytes c.put-at-2.ensures.puts-the-bytes) c.put.ensures.puts-the-bytes;
+  puts_the_line = puts_then _ _ _ _ _ _ _ _ (puts_then _ _ _ _ _ _ _ _ c.put-at.ensures.puts_the_bytes c.put-at-2.ensures.puts_the_bytes) c.put.ensures.puts_the_bytes;
 }

@@ -11,5 +11,5 @@ overflow-add-result-2 c = omega (arith, length-decimal-le 20 c.args.n (omega ari
 
 pub returns : goal.returns
 returns c = record {
-  counts-the-bytes = omega (arith, length_push (c.args.key.now ++ decimal c.args.n) 10, length-append c.args.key.now (decimal c.args.n));
+  counts_the_bytes = omega (arith, length_push (c.args.key.now ++ decimal c.args.n) 10, length-append c.args.key.now (decimal c.args.n));
 }

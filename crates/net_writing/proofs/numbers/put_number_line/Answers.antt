@@ -20,6 +20,6 @@ put-requires c = record {
 
 pub returns : goal.returns
 returns c = record {
-  puts-the-line =
-      puts_then _ _ _ _ _ _ _ _ (puts_then _ _ _ _ _ _ _ _ c.put-at.ensures.puts-the-bytes c.put-number-at.ensures.puts-the-digits) c.put.ensures.puts-the-bytes;
+  puts_the_line =
+      puts_then _ _ _ _ _ _ _ _ (puts_then _ _ _ _ _ _ _ _ c.put-at.ensures.puts_the_bytes c.put-number-at.ensures.puts_the_digits) c.put.ensures.puts_the_bytes;
 }

@@ -6,7 +6,7 @@ use Rattle.net_writing.proofs.places.places_length.Goals as goal
 pub returns : goal.returns
 returns g c =
     let N = view g.W.Wheel c.args.net.now in
-    let each : 6 + 1 + 3 * c.styles.result + 1 ≡ 8 + 3 * N.styles = omega (arith, c.styles.ensures.counts-the-styles) in
+    let each : 6 + 1 + 3 * c.styles.result + 1 ≡ 8 + 3 * N.styles = omega (arith, c.styles.ensures.counts_the_styles) in
     record {
-      counts-the-bytes = ap₂ ◌*◌ c.places.ensures.counts-the-places each ∙ sym (place_lines_length N c.styles.ensures.every-net-is-proper);
+      counts_the_bytes = ap₂ ◌*◌ c.places.ensures.counts_the_places each ∙ sym (place_lines_length N c.styles.ensures.every_net_is_proper);
     }

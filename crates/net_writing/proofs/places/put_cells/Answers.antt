@@ -20,8 +20,8 @@ put-cell-end-requires g c =
     let w = g.W.Wheel in
     let net = c.args.net.now in
     let cells = (place-number (view w net) c.args.place).cells in
-    let found = c.in-Some.ensures.is-the-cell in
-    let within : c.loop-cell.style < length cells = omega (arith, found.1, ((proper w (lawful g) net).each_place c.args.place c.requires.there-is-such-a-place).one_cell_each) in
+    let found = c.in-Some.ensures.is_the_cell in
+    let within : c.loop-cell.style < length cells = omega (arith, found.1, ((proper w (lawful g) net).each_place c.args.place c.requires.there_is_such_a_place).one_cell_each) in
     record {
       room = subst (λ cell. c.loop-cell.end + length (cell_bytes cell) ≤ length c.loop-cell.buffer) (sym found.2) (room_next cell_bytes cells c.args.buffer.now c.args.at c.loop-cell.style idle _ _ within c.requires.room c.loop-cell.invariant.1);
     }
@@ -31,11 +31,11 @@ loop-cell-preserved g c =
     let w = g.W.Wheel in
     let net = c.args.net.now in
     let cells = (place-number (view w net) c.args.place).cells in
-    let found = c.in-Some.ensures.is-the-cell in
-    let within : c.loop-cell.style < length cells = omega (arith, found.1, ((proper w (lawful g) net).each_place c.args.place c.requires.there-is-such-a-place).one_cell_each) in (
+    let found = c.in-Some.ensures.is_the_cell in
+    let within : c.loop-cell.style < length cells = omega (arith, found.1, ((proper w (lawful g) net).each_place c.args.place c.requires.there_is_such_a_place).one_cell_each) in (
       omega (arith, found.1),
       puts_more cell_bytes cells c.args.buffer.now c.args.at c.loop-cell.style idle _ _ _ _ within c.loop-cell.invariant.1
-          (puts_same _ _ _ _ _ _ (ap cell_bytes found.2) c.put-cell-end.ensures.puts-the-cell),
+          (puts_same _ _ _ _ _ _ (ap cell_bytes found.2) c.put-cell-end.ensures.puts_the_cell),
     )
 
 pub returns : goal.returns
@@ -43,6 +43,6 @@ returns g c =
     let w = g.W.Wheel in
     let net = c.args.net.now in
     let cells = (place-number (view w net) c.args.place).cells in
-    let count = ((proper w (lawful g) net).each_place c.args.place c.requires.there-is-such-a-place).one_cell_each in
-    let past : length cells ≤ c.loop-cell.style = ⊎_elim (λ h. absurd (c.in-default.ensures.is-the-cell (c.requires.there-is-such-a-place, h))) (λ h. omega (arith, count)) (cases_lt c.loop-cell.style (view w net).styles) in
-    record { puts-the-cells = puts_all cell_bytes cells _ _ c.loop-cell.style _ _ past c.loop-cell.invariant.1 }
+    let count = ((proper w (lawful g) net).each_place c.args.place c.requires.there_is_such_a_place).one_cell_each in
+    let past : length cells ≤ c.loop-cell.style = ⊎_elim (λ h. absurd (c.in-default.ensures.is_the_cell (c.requires.there_is_such_a_place, h))) (λ h. omega (arith, count)) (cases_lt c.loop-cell.style (view w net).styles) in
+    record { puts_the_cells = puts_all cell_bytes cells _ _ c.loop-cell.style _ _ past c.loop-cell.invariant.1 }

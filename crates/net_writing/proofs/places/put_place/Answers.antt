@@ -16,7 +16,7 @@ put-at-requires-2 g c = record { room = omega (arith, place_line_length (place-n
 
 pub put-cells-at-requires : goal.put-cells-at-requires
 put-cells-at-requires g c = record {
-  there-is-such-a-place = c.requires.there-is-such-a-place;
+  there_is_such_a_place = c.requires.there_is_such_a_place;
   room = omega (arith, place_line_length (place-number (view g.W.Wheel c.args.net.now) c.args.place));
 }
 
@@ -26,11 +26,11 @@ put-requires g c = record { room = omega (arith, place_line_length (place-number
 pub returns : goal.returns
 returns g c =
     let place = place-number (view g.W.Wheel c.args.net.now) c.args.place in
-    let front = puts_then _ _ _ _ _ _ _ _ c.put-at.ensures.puts-the-bytes c.put-at-2.ensures.puts-the-bytes in
-    let line = puts_then _ _ _ _ _ _ _ _ front c.put-cells-at.ensures.puts-the-cells in
+    let front = puts_then _ _ _ _ _ _ _ _ c.put-at.ensures.puts_the_bytes c.put-at-2.ensures.puts_the_bytes in
+    let line = puts_then _ _ _ _ _ _ _ _ front c.put-cells-at.ensures.puts_the_cells in
     record {
-      puts-the-line =
+      puts_the_line =
           puts_same _ _ _ _ _ _
-          (ap (λ byte. ended (codes "place=" ++ (byte ∷ flat_map cell_bytes place.cells))) (c.digit-byte.ensures.is-the-digit ∙ ap digit c.requires.starts-there))
-          (puts_then _ _ _ _ _ _ _ _ line c.put.ensures.puts-the-bytes);
+          (ap (λ byte. ended (codes "place=" ++ (byte ∷ flat_map cell_bytes place.cells))) (c.digit_byte.ensures.is_the_digit ∙ ap digit c.requires.starts_there))
+          (puts_then _ _ _ _ _ _ _ _ line c.put.ensures.puts_the_bytes);
     }

@@ -16,24 +16,24 @@ loop-start-init g c = (omega arith, puts_none _ _ (omega arith))
 
 pub put-place-end-requires : goal.put-place-end-requires
 put-place-end-requires g c =
-    let found = c.in-Some.ensures.is-the-start-value in
+    let found = c.in-Some.ensures.is_the_start_value in
     record {
-      there-is-such-a-place = found.0;
-      starts-there = found.1;
+      there_is_such_a_place = found.0;
+      starts_there = found.1;
       room = room_next (λ place. ended (place_line place)) (view g.W.Wheel c.args.net.now).places c.args.buffer.now c.args.at c.loop-start.place (record { start = 0; cells = [] }) _ _ found.0 c.requires.room c.loop-start.invariant.1;
     }
 
 pub overflow-add-place : goal.overflow-add-place
-overflow-add-place g c = omega (arith, c.in-Some.ensures.is-the-start-value.0, (proper g.W.Wheel (lawful g) c.args.net.now).few_places)
+overflow-add-place g c = omega (arith, c.in-Some.ensures.is_the_start_value.0, (proper g.W.Wheel (lawful g) c.args.net.now).few_places)
 
 pub loop-start-preserved : goal.loop-start-preserved
 loop-start-preserved g c =
-    let found = c.in-Some.ensures.is-the-start-value in (
+    let found = c.in-Some.ensures.is_the_start_value in (
       omega (arith, found.0),
-      puts_more (λ place. ended (place_line place)) (view g.W.Wheel c.args.net.now).places c.args.buffer.now c.args.at c.loop-start.place (record { start = 0; cells = [] }) _ _ _ _ found.0 c.loop-start.invariant.1 c.put-place-end.ensures.puts-the-line,
+      puts_more (λ place. ended (place_line place)) (view g.W.Wheel c.args.net.now).places c.args.buffer.now c.args.at c.loop-start.place (record { start = 0; cells = [] }) _ _ _ _ found.0 c.loop-start.invariant.1 c.put-place-end.ensures.puts_the_line,
     )
 
 pub returns : goal.returns
 returns g c = record {
-  puts-the-lines = puts_all (λ place. ended (place_line place)) (view g.W.Wheel c.args.net.now).places _ _ c.loop-start.place _ _ c.in-default.ensures.is-the-start-value c.loop-start.invariant.1;
+  puts_the_lines = puts_all (λ place. ended (place_line place)) (view g.W.Wheel c.args.net.now).places _ _ c.loop-start.place _ _ c.in-default.ensures.is_the_start_value c.loop-start.invariant.1;
 }

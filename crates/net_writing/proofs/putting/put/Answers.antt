@@ -9,7 +9,7 @@ returns c =
     let bytes = c.args.bytes.now in
     let at = c.args.at in
     record {
-      puts-the-bytes = record {
+      puts_the_bytes = record {
         room = c.requires.room;
         ends = refl;
         holds =

@@ -13,64 +13,64 @@ pub put-number-line-at-requires : goal.put-number-line-at-requires
 put-number-line-at-requires g c =
     let N = view g.W.Wheel c.args.net.now in
     let names = names_of c.args.sheet.now in
-    let wheel = ap (λ n. length (ended (wheel_line n))) (c.from.ensures ∙ c.positions.ensures.is-the-order) in
+    let wheel = ap (λ n. length (ended (wheel_line n))) (c.from.ensures ∙ c.positions.ensures.is_the_order) in
     record { room = omega (arith, net_text_length N names) }
 
 pub put-number-line-at-requires-2 : goal.put-number-line-at-requires-2
 put-number-line-at-requires-2 g c =
     let N = view g.W.Wheel c.args.net.now in
     let names = names_of c.args.sheet.now in
-    let wheel = ap (λ n. length (ended (wheel_line n))) (c.from.ensures ∙ c.positions.ensures.is-the-order) in
-    let styles = ap (λ n. length (ended (styles_line n))) c.styles.ensures.counts-the-styles in
+    let wheel = ap (λ n. length (ended (wheel_line n))) (c.from.ensures ∙ c.positions.ensures.is_the_order) in
+    let styles = ap (λ n. length (ended (styles_line n))) c.styles.ensures.counts_the_styles in
     record { room = omega (arith, net_text_length N names) }
 
 pub put-names-at-requires : goal.put-names-at-requires
 put-names-at-requires g c =
     let N = view g.W.Wheel c.args.net.now in
     let names = names_of c.args.sheet.now in
-    let wheel = ap (λ n. length (ended (wheel_line n))) (c.from.ensures ∙ c.positions.ensures.is-the-order) in
-    let styles = ap (λ n. length (ended (styles_line n))) c.styles.ensures.counts-the-styles in
+    let wheel = ap (λ n. length (ended (wheel_line n))) (c.from.ensures ∙ c.positions.ensures.is_the_order) in
+    let styles = ap (λ n. length (ended (styles_line n))) c.styles.ensures.counts_the_styles in
     record { room = omega (arith, net_text_length N names) }
 
 pub put-number-line-at-requires-3 : goal.put-number-line-at-requires-3
 put-number-line-at-requires-3 g c =
     let N = view g.W.Wheel c.args.net.now in
     let names = names_of c.args.sheet.now in
-    let wheel = ap (λ n. length (ended (wheel_line n))) (c.from.ensures ∙ c.positions.ensures.is-the-order) in
-    let styles = ap (λ n. length (ended (styles_line n))) c.styles.ensures.counts-the-styles in
-    let places = ap (λ n. length (ended (places_line n))) c.places.ensures.counts-the-places in
+    let wheel = ap (λ n. length (ended (wheel_line n))) (c.from.ensures ∙ c.positions.ensures.is_the_order) in
+    let styles = ap (λ n. length (ended (styles_line n))) c.styles.ensures.counts_the_styles in
+    let places = ap (λ n. length (ended (places_line n))) c.places.ensures.counts_the_places in
     record { room = omega (arith, net_text_length N names) }
 
 pub put-places-at-requires : goal.put-places-at-requires
 put-places-at-requires g c =
     let N = view g.W.Wheel c.args.net.now in
     let names = names_of c.args.sheet.now in
-    let wheel = ap (λ n. length (ended (wheel_line n))) (c.from.ensures ∙ c.positions.ensures.is-the-order) in
-    let styles = ap (λ n. length (ended (styles_line n))) c.styles.ensures.counts-the-styles in
-    let places = ap (λ n. length (ended (places_line n))) c.places.ensures.counts-the-places in
+    let wheel = ap (λ n. length (ended (wheel_line n))) (c.from.ensures ∙ c.positions.ensures.is_the_order) in
+    let styles = ap (λ n. length (ended (styles_line n))) c.styles.ensures.counts_the_styles in
+    let places = ap (λ n. length (ended (places_line n))) c.places.ensures.counts_the_places in
     record { room = omega (arith, net_text_length N names) }
 
 pub put-requires : goal.put-requires
 put-requires g c =
     let N = view g.W.Wheel c.args.net.now in
     let names = names_of c.args.sheet.now in
-    let wheel = ap (λ n. length (ended (wheel_line n))) (c.from.ensures ∙ c.positions.ensures.is-the-order) in
-    let styles = ap (λ n. length (ended (styles_line n))) c.styles.ensures.counts-the-styles in
-    let places = ap (λ n. length (ended (places_line n))) c.places.ensures.counts-the-places in
+    let wheel = ap (λ n. length (ended (wheel_line n))) (c.from.ensures ∙ c.positions.ensures.is_the_order) in
+    let styles = ap (λ n. length (ended (styles_line n))) c.styles.ensures.counts_the_styles in
+    let places = ap (λ n. length (ended (places_line n))) c.places.ensures.counts_the_places in
     record { room = omega (arith, net_text_length N names) }
 
 pub returns : goal.returns
 returns g c =
     let N = view g.W.Wheel c.args.net.now in
     let names = names_of c.args.sheet.now in
-    let wheel = puts_same _ _ _ _ _ _ (ap (λ n. ended (wheel_line n)) (c.from.ensures ∙ c.positions.ensures.is-the-order)) c.put-number-line-at.ensures.puts-the-line in
-    let styles = puts_same _ _ _ _ _ _ (ap (λ n. ended (styles_line n)) c.styles.ensures.counts-the-styles) c.put-number-line-at-2.ensures.puts-the-line in
-    let places = puts_same _ _ _ _ _ _ (ap (λ n. ended (places_line n)) c.places.ensures.counts-the-places) c.put-number-line-at-3.ensures.puts-the-line in
-    let to_styles = puts_then _ _ _ _ _ _ _ _ (puts_then _ _ _ _ _ _ _ _ c.put-at.ensures.puts-the-bytes wheel) styles in
-    let to_places = puts_then _ _ _ _ _ _ _ _ (puts_then _ _ _ _ _ _ _ _ to_styles c.put-names-at.ensures.puts-the-lines) places in
-    let to_end = puts_then _ _ _ _ _ _ _ _ (puts_then _ _ _ _ _ _ _ _ to_places c.put-places-at.ensures.puts-the-lines) c.put.ensures.puts-the-bytes in
+    let wheel = puts_same _ _ _ _ _ _ (ap (λ n. ended (wheel_line n)) (c.from.ensures ∙ c.positions.ensures.is_the_order)) c.put-number-line-at.ensures.puts_the_line in
+    let styles = puts_same _ _ _ _ _ _ (ap (λ n. ended (styles_line n)) c.styles.ensures.counts_the_styles) c.put-number-line-at-2.ensures.puts_the_line in
+    let places = puts_same _ _ _ _ _ _ (ap (λ n. ended (places_line n)) c.places.ensures.counts_the_places) c.put-number-line-at-3.ensures.puts_the_line in
+    let to_styles = puts_then _ _ _ _ _ _ _ _ (puts_then _ _ _ _ _ _ _ _ c.put-at.ensures.puts_the_bytes wheel) styles in
+    let to_places = puts_then _ _ _ _ _ _ _ _ (puts_then _ _ _ _ _ _ _ _ to_styles c.put-names-at.ensures.puts_the_lines) places in
+    let to_end = puts_then _ _ _ _ _ _ _ _ (puts_then _ _ _ _ _ _ _ _ to_places c.put-places-at.ensures.puts_the_lines) c.put.ensures.puts_the_bytes in
     record {
-      puts-the-text =
+      puts_the_text =
           puts_same _ _ _ _ _ _
           (regrouped (ended net_opening) (ended (wheel_line N.order)) (ended (styles_line N.styles)) (name_lines names) (ended (places_line (length N.places))) (place_lines N.places) (ended net_end)
           ∙ sym (net_text_blocks N names))

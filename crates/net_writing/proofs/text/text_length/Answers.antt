@@ -26,57 +26,57 @@ pub overflow-add-result : goal.overflow-add-result
 overflow-add-result g c =
     let N = view g.W.Wheel c.args.net.now in
     let names = names_of c.args.sheet.now in
-    let wheel = ap (λ n. length (ended (wheel_line n))) (c.from.ensures ∙ c.positions.ensures.is-the-order) in
+    let wheel = ap (λ n. length (ended (wheel_line n))) (c.from.ensures ∙ c.positions.ensures.is_the_order) in
     omega (arith, net_text_length N names, small g c.args.net.now c.args.sheet.now c.requires.one_name_each)
 
 pub overflow-add-result-2 : goal.overflow-add-result-2
 overflow-add-result-2 g c =
     let N = view g.W.Wheel c.args.net.now in
     let names = names_of c.args.sheet.now in
-    let wheel = ap (λ n. length (ended (wheel_line n))) (c.from.ensures ∙ c.positions.ensures.is-the-order) in
-    let styles = ap (λ n. length (ended (styles_line n))) c.styles.ensures.counts-the-styles in
+    let wheel = ap (λ n. length (ended (wheel_line n))) (c.from.ensures ∙ c.positions.ensures.is_the_order) in
+    let styles = ap (λ n. length (ended (styles_line n))) c.styles.ensures.counts_the_styles in
     omega (arith, net_text_length N names, small g c.args.net.now c.args.sheet.now c.requires.one_name_each)
 
 pub overflow-add-result-3 : goal.overflow-add-result-3
 overflow-add-result-3 g c =
     let N = view g.W.Wheel c.args.net.now in
     let names = names_of c.args.sheet.now in
-    let wheel = ap (λ n. length (ended (wheel_line n))) (c.from.ensures ∙ c.positions.ensures.is-the-order) in
-    let styles = ap (λ n. length (ended (styles_line n))) c.styles.ensures.counts-the-styles in
+    let wheel = ap (λ n. length (ended (wheel_line n))) (c.from.ensures ∙ c.positions.ensures.is_the_order) in
+    let styles = ap (λ n. length (ended (styles_line n))) c.styles.ensures.counts_the_styles in
     omega (arith, net_text_length N names, small g c.args.net.now c.args.sheet.now c.requires.one_name_each)
 
 pub overflow-add-result-4 : goal.overflow-add-result-4
 overflow-add-result-4 g c =
     let N = view g.W.Wheel c.args.net.now in
     let names = names_of c.args.sheet.now in
-    let wheel = ap (λ n. length (ended (wheel_line n))) (c.from.ensures ∙ c.positions.ensures.is-the-order) in
-    let styles = ap (λ n. length (ended (styles_line n))) c.styles.ensures.counts-the-styles in
-    let places = ap (λ n. length (ended (places_line n))) c.places.ensures.counts-the-places in
+    let wheel = ap (λ n. length (ended (wheel_line n))) (c.from.ensures ∙ c.positions.ensures.is_the_order) in
+    let styles = ap (λ n. length (ended (styles_line n))) c.styles.ensures.counts_the_styles in
+    let places = ap (λ n. length (ended (places_line n))) c.places.ensures.counts_the_places in
     omega (arith, net_text_length N names, small g c.args.net.now c.args.sheet.now c.requires.one_name_each)
 
 pub overflow-add-result-5 : goal.overflow-add-result-5
 overflow-add-result-5 g c =
     let N = view g.W.Wheel c.args.net.now in
     let names = names_of c.args.sheet.now in
-    let wheel = ap (λ n. length (ended (wheel_line n))) (c.from.ensures ∙ c.positions.ensures.is-the-order) in
-    let styles = ap (λ n. length (ended (styles_line n))) c.styles.ensures.counts-the-styles in
-    let places = ap (λ n. length (ended (places_line n))) c.places.ensures.counts-the-places in
+    let wheel = ap (λ n. length (ended (wheel_line n))) (c.from.ensures ∙ c.positions.ensures.is_the_order) in
+    let styles = ap (λ n. length (ended (styles_line n))) c.styles.ensures.counts_the_styles in
+    let places = ap (λ n. length (ended (places_line n))) c.places.ensures.counts_the_places in
     omega (arith, net_text_length N names, small g c.args.net.now c.args.sheet.now c.requires.one_name_each)
 
 pub overflow-add-result-6 : goal.overflow-add-result-6
 overflow-add-result-6 g c =
     let N = view g.W.Wheel c.args.net.now in
     let names = names_of c.args.sheet.now in
-    let wheel = ap (λ n. length (ended (wheel_line n))) (c.from.ensures ∙ c.positions.ensures.is-the-order) in
-    let styles = ap (λ n. length (ended (styles_line n))) c.styles.ensures.counts-the-styles in
-    let places = ap (λ n. length (ended (places_line n))) c.places.ensures.counts-the-places in
+    let wheel = ap (λ n. length (ended (wheel_line n))) (c.from.ensures ∙ c.positions.ensures.is_the_order) in
+    let styles = ap (λ n. length (ended (styles_line n))) c.styles.ensures.counts_the_styles in
+    let places = ap (λ n. length (ended (places_line n))) c.places.ensures.counts_the_places in
     omega (arith, net_text_length N names, small g c.args.net.now c.args.sheet.now c.requires.one_name_each)
 
 pub returns : goal.returns
 returns g c =
     let N = view g.W.Wheel c.args.net.now in
     let names = names_of c.args.sheet.now in
-    let wheel = ap (λ n. length (ended (wheel_line n))) (c.from.ensures ∙ c.positions.ensures.is-the-order) in
-    let styles = ap (λ n. length (ended (styles_line n))) c.styles.ensures.counts-the-styles in
-    let places = ap (λ n. length (ended (places_line n))) c.places.ensures.counts-the-places in
-    record { counts-the-bytes = omega (arith, net_text_length N names) }
+    let wheel = ap (λ n. length (ended (wheel_line n))) (c.from.ensures ∙ c.positions.ensures.is_the_order) in
+    let styles = ap (λ n. length (ended (styles_line n))) c.styles.ensures.counts_the_styles in
+    let places = ap (λ n. length (ended (places_line n))) c.places.ensures.counts_the_places in
+    record { counts_the_bytes = omega (arith, net_text_length N names) }

@@ -17,47 +17,47 @@ use Rattle.galley.proofs.galleys.Galley.set.Goals as goal
 lawful : (g : given.Over) → Lawful g.W.Wheel
 lawful g = let laws = g.met.W.Wheel in record { from_two = laws.at_least_two; to_nine = laws.at_most_nine; below = laws.numbers_are_below_the_order }
 
-pub returns-in-default : goal.returns-in-default
-returns-in-default g c =
+pub returns-in_default : goal.returns-in_default
+returns-in_default g c =
     let galley = c.args.self.now in
-    let past : (net_of g.W.Wheel galley).styles ≤ c.args.style = omega (arith, c.in-default.ensures.one-cell-for-each-place, c.from.ensures) in
+    let past : (net_of g.W.Wheel galley).styles ≤ c.args.style = omega (arith, c.in_default.ensures.one_cell_for_each_place, c.from.ensures) in
     record {
-      answers-as-owed = λ run so. unknown_style past;
-      has-set-the-run-after = λ run so. so;
-      accepts-exactly-what-fires = λ run so. (
+      answers_as_owed = λ run so. unknown_style past;
+      has_set_the_run_after = λ run so. so;
+      accepts_exactly_what_fires = λ run so. (
         λ e. absurd (false≢true e),
         λ fires. absurd (owed_refusal {run = run} (unknown_style past) (fires_accepts (net_of g.W.Wheel galley) (proper g.W.Wheel (lawful g) galley.net.now) run c.args.style fires)),
       );
-      fires-in-the-shown-marking = (λ e. absurd (false≢true e), λ on. absurd (omega (arith, on.is_transition, past)));
-      stands-on-the-same-net = refl;
-      refused-calls-change-nothing = λ e. refl;
+      fires_in_the_shown_marking = (λ e. absurd (false≢true e), λ on. absurd (omega (arith, on.is_transition, past)));
+      stands_on_the_same_net = refl;
+      refused_calls_change_nothing = λ e. refl;
     }
 
-pub returns-in-Some-first-refusing : goal.returns-in-Some-first-refusing
-returns-in-Some-first-refusing g c =
+pub returns-in-Some-first_refusing : goal.returns-in-Some-first_refusing
+returns-in-Some-first_refusing g c =
     let w = g.W.Wheel in
     let galley = c.args.self.now in
     let net = view w galley.net.now in
     let style = c.args.style in
     let proper = proper g.W.Wheel (lawful g) galley.net.now in
     let cells = map (cell_of w) c.in-Some.cells.now in
-    let row : cells ≡ map (λ p. cell p style) net.places = c.in-Some.ensures.one-cell-for-each-place.row ∙ ap (λ s. map (λ p. cell p s) net.places) c.from.ensures in
-    let known : style < net.styles = omega (arith, c.in-Some.ensures.one-cell-for-each-place.known, c.from.ensures) in
-    let first : FirstRefuses cells (map w.number (vec_items galley.shown)) c.in-Some-first-refusing.refusing =
-    subst (λ values. FirstRefuses cells (map w.number values) c.in-Some-first-refusing.refusing) c.as-slice.ensures.value c.in-Some-first-refusing.ensures.is-the-first in
+    let row : cells ≡ map (λ p. cell p style) net.places = c.in-Some.ensures.one_cell_for_each_place.row ∙ ap (λ s. map (λ p. cell p s) net.places) c.from.ensures in
+    let known : style < net.styles = omega (arith, c.in-Some.ensures.one_cell_for_each_place.known, c.from.ensures) in
+    let first : FirstRefuses cells (map w.number (vec_items galley.shown)) c.in-Some-first_refusing.refusing =
+    subst (λ values. FirstRefuses cells (map w.number values) c.in-Some-first_refusing.refusing) c.as_slice.ensures.value c.in-Some-first_refusing.ensures.is_the_first in
     record {
-      answers-as-owed = λ run so. row_owes net run style cells (map w.number (vec_items galley.shown)) row so.showing known c.in-Some-first-refusing.refusing first;
-      has-set-the-run-after = λ run so. so;
-      accepts-exactly-what-fires = λ run so. (
+      answers_as_owed = λ run so. row_owes net run style cells (map w.number (vec_items galley.shown)) row so.showing known c.in-Some-first_refusing.refusing first;
+      has_set_the_run_after = λ run so. so;
+      accepts_exactly_what_fires = λ run so. (
         λ e. absurd (false≢true e),
-        λ fires. absurd (owed_refusal (row_owes net run style cells (map w.number (vec_items galley.shown)) row so.showing known c.in-Some-first-refusing.refusing first) (fires_accepts net proper run style fires)),
+        λ fires. absurd (owed_refusal (row_owes net run style cells (map w.number (vec_items galley.shown)) row so.showing known c.in-Some-first_refusing.refusing first) (fires_accepts net proper run style fires)),
       );
-      fires-in-the-shown-marking = (
+      fires_in_the_shown_marking = (
         λ e. absurd (false≢true e),
-        λ on. absurd (refusing_disables net style cells (map w.number (vec_items galley.shown)) row proper (number_below g.W.Wheel (lawful g) (vec_items galley.shown)) known c.in-Some-first-refusing.refusing first on),
+        λ on. absurd (refusing_disables net style cells (map w.number (vec_items galley.shown)) row proper (number_below g.W.Wheel (lawful g) (vec_items galley.shown)) known c.in-Some-first_refusing.refusing first on),
       );
-      stands-on-the-same-net = refl;
-      refused-calls-change-nothing = λ e. refl;
+      stands_on_the_same_net = refl;
+      refused_calls_change_nothing = λ e. refl;
     }
 
 pub returns-in-None : goal.returns-in-None
@@ -69,27 +69,27 @@ returns-in-None g c =
     let proper = proper g.W.Wheel (lawful g) galley.net.now in
     let cells = map (cell_of w) c.in-Some.cells.now in
     let values = map w.number (vec_items galley.shown) in
-    let row : cells ≡ map (λ p. cell p style) net.places = c.in-Some.ensures.one-cell-for-each-place.row ∙ ap (λ s. map (λ p. cell p s) net.places) c.from.ensures in
-    let known : style < net.styles = omega (arith, c.in-Some.ensures.one-cell-for-each-place.known, c.from.ensures) in
+    let row : cells ≡ map (λ p. cell p style) net.places = c.in-Some.ensures.one_cell_for_each_place.row ∙ ap (λ s. map (λ p. cell p s) net.places) c.from.ensures in
+    let known : style < net.styles = omega (arith, c.in-Some.ensures.one_cell_for_each_place.known, c.from.ensures) in
     let long : length c.in-Some.cells.now ≡ length cells = sym (length-map c.in-Some.cells.now (cell_of w)) in
     let none : NoneRefuses cells values (length cells) =
     subst (NoneRefuses cells values) long
-    (subst (λ shown. NoneRefuses cells (map w.number shown) (length c.in-Some.cells.now)) c.as-slice.ensures.value c.in-None.ensures.is-the-first) in
-    let turned : Turned w.order cells values (length cells) (map w.number (vec_items c.turn-all.new.shown)) =
-    subst (λ n. Turned w.order cells values n (map w.number (vec_items c.turn-all.new.shown))) long c.turn-all.ensures.each-place-turns in
+    (subst (λ shown. NoneRefuses cells (map w.number shown) (length c.in-Some.cells.now)) c.as_slice.ensures.value c.in-None.ensures.is_the_first) in
+    let turned : Turned w.order cells values (length cells) (map w.number (vec_items c.turn_all.new.shown)) =
+    subst (λ n. Turned w.order cells values n (map w.number (vec_items c.turn_all.new.shown))) long c.turn_all.ensures.each_place_turns in
     record {
-      answers-as-owed = λ run so. accepted (row_accepts net run style cells values row so.showing known none);
-      has-set-the-run-after = λ run so.
-          stands_next w galley.net.now (vec_items galley.shown) (vec_items c.turn-all.new.shown) run style (row_accepts net run style cells values row so.showing known none) so
-          (row_turned net run style cells values row so.showing proper known (map w.number (vec_items c.turn-all.new.shown)) turned);
-      accepts-exactly-what-fires = λ run so. (
+      answers_as_owed = λ run so. accepted (row_accepts net run style cells values row so.showing known none);
+      has_set_the_run_after = λ run so.
+          stands_next w galley.net.now (vec_items galley.shown) (vec_items c.turn_all.new.shown) run style (row_accepts net run style cells values row so.showing known none) so
+          (row_turned net run style cells values row so.showing proper known (map w.number (vec_items c.turn_all.new.shown)) turned);
+      accepts_exactly_what_fires = λ run so. (
         λ e. accepts_fires net proper run style so.accepted (row_accepts net run style cells values row so.showing known none),
         λ fires. refl,
       );
-      fires-in-the-shown-marking = (
-        λ e. turned_leads net style cells values row proper (number_below g.W.Wheel (lawful g) (vec_items galley.shown)) known none (map w.number (vec_items c.turn-all.new.shown)) turned,
+      fires_in_the_shown_marking = (
+        λ e. turned_leads net style cells values row proper (number_below g.W.Wheel (lawful g) (vec_items galley.shown)) known none (map w.number (vec_items c.turn_all.new.shown)) turned,
         λ on. refl,
       );
-      stands-on-the-same-net = refl;
-      refused-calls-change-nothing = λ e. absurd (false≢true e);
+      stands_on_the_same_net = refl;
+      refused_calls_change_nothing = λ e. absurd (false≢true e);
     }

@@ -13,8 +13,8 @@ returns g c =
     let w = g.W.Wheel in
     let net = c.args.net.now in
     record {
-      has-set-the-empty-run =
-          stands_fresh w net (proper w (lawful g) net) (vec_items c.in-ok-shown.shown) c.in-ok-shown.ensures.copies-the-start-values;
-      fails-only-for-want-of-memory = refl;
-      stands-on-the-net = refl;
+      has_set_the_empty_run =
+          stands_fresh w net (proper w (lawful g) net) (vec_items c.in_ok-shown.shown) c.in_ok-shown.ensures.copies_the_start_values;
+      fails_only_for_want_of_memory = refl;
+      stands_on_the_net = refl;
     }

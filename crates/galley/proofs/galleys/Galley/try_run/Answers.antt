@@ -6,48 +6,48 @@ use Rattle.theory.specs.Positions.{Below}
 use Rattle.galley.specs.Standing.{Stands}
 use Rattle.galley.proofs.galleys.Galley.try_run.Goals as goal
 
-pub returns-then-run-gt-RUN-LIMIT : goal.returns-then-run-gt-RUN-LIMIT
-returns-then-run-gt-RUN-LIMIT g c = record {
-  answers-as-owed = λ before so. too_long c.if-run-gt-RUN-LIMIT.true;
-  counts-the-longest-firing-sequence = tt;
-  has-set-the-same-run = λ before so. so;
-  shows-again-what-it-showed = refl;
-  stands-on-the-same-net = refl;
-  refused-calls-change-nothing = λ e. refl;
+pub returns-then-run-gt-RUN_LIMIT : goal.returns-then-run-gt-RUN_LIMIT
+returns-then-run-gt-RUN_LIMIT g c = record {
+  answers_as_owed = λ before so. too_long c.if-run-gt-RUN_LIMIT.true;
+  counts_the_longest_firing_sequence = tt;
+  has_set_the_same_run = λ before so. so;
+  shows_again_what_it_showed = refl;
+  stands_on_the_same_net = refl;
+  refused_calls_change_nothing = λ e. refl;
 }
 
 pub returns-in-Some : goal.returns-in-Some
 returns-in-Some g c = record {
-  answers-as-owed = λ before so. unknown_style c.if-run-gt-RUN-LIMIT.false (subst (λ n. FirstUnknown n c.args.run.now c.in-Some.step) c.styles.ensures.counts-the-styles c.in-Some.ensures.is-the-first);
-  counts-the-longest-firing-sequence = tt;
-  has-set-the-same-run = λ before so. so;
-  shows-again-what-it-showed = refl;
-  stands-on-the-same-net = refl;
-  refused-calls-change-nothing = λ e. refl;
+  answers_as_owed = λ before so. unknown_style c.if-run-gt-RUN_LIMIT.false (subst (λ n. FirstUnknown n c.args.run.now c.in-Some.step) c.styles.ensures.counts_the_styles c.in-Some.ensures.is_the_first);
+  counts_the_longest_firing_sequence = tt;
+  has_set_the_same_run = λ before so. so;
+  shows_again_what_it_showed = refl;
+  stands_on_the_same_net = refl;
+  refused_calls_change_nothing = λ e. refl;
 }
 
-pub longest-prefix-requires : goal.longest-prefix-requires
-longest-prefix-requires g c =
+pub longest_prefix-requires : goal.longest_prefix-requires
+longest_prefix-requires g c =
     let galley = c.args.self.now in
-    let copied = c.copy-from-slice.ensures.after ∙ c.as-slice.ensures.value in
+    let copied = c.copy_from_slice.ensures.after ∙ c.as_slice.ensures.value in
     record {
-      saved-are-the-shown =
-          c.as-slice-2.ensures.value
-          ∙ with_items_is galley.saved c.copy-from-slice.new.self (ap length copied ∙ sym galley.shown.ok.0 ∙ sym galley.room_to_save)
+      saved_are_the_shown =
+          c.as_slice-2.ensures.value
+          ∙ with_items_is galley.saved c.copy_from_slice.new.self (ap length copied ∙ sym galley.shown.ok.0 ∙ sym galley.room_to_save)
           ∙ copied;
-      one-value-each = galley.one_value_each;
-      styles-known = subst (λ n. Below n c.args.run.now) c.styles.ensures.counts-the-styles c.in-default.ensures.is-the-first;
+      one_value_each = galley.one_value_each;
+      styles_known = subst (λ n. Below n c.args.run.now) c.styles.ensures.counts_the_styles c.in_default.ensures.is_the_first;
     }
 
 pub returns : goal.returns
 returns g c =
     let galley = c.args.self.now in
-    let known = subst (λ n. Below n c.args.run.now) c.styles.ensures.counts-the-styles c.in-default.ensures.is-the-first in
+    let known = subst (λ n. Below n c.args.run.now) c.styles.ensures.counts_the_styles c.in_default.ensures.is_the_first in
     record {
-      answers-as-owed = λ before so. set_so_far c.if-run-gt-RUN-LIMIT.false known (c.longest-prefix.ensures.is-the-longest before so);
-      counts-the-longest-firing-sequence = c.longest-prefix.ensures.is-the-longest-to-fire;
-      has-set-the-same-run = λ before so. subst (λ values. Stands g.W.Wheel galley.net.now values before) (sym c.longest-prefix.ensures.shows-again-what-it-showed) so;
-      shows-again-what-it-showed = c.longest-prefix.ensures.shows-again-what-it-showed;
-      stands-on-the-same-net = refl;
-      refused-calls-change-nothing = λ e. absurd (false≢true e);
+      answers_as_owed = λ before so. set_so_far c.if-run-gt-RUN_LIMIT.false known (c.longest_prefix.ensures.is_the_longest before so);
+      counts_the_longest_firing_sequence = c.longest_prefix.ensures.is_the_longest_to_fire;
+      has_set_the_same_run = λ before so. subst (λ values. Stands g.W.Wheel galley.net.now values before) (sym c.longest_prefix.ensures.shows_again_what_it_showed) so;
+      shows_again_what_it_showed = c.longest_prefix.ensures.shows_again_what_it_showed;
+      stands_on_the_same_net = refl;
+      refused_calls_change_nothing = λ e. absurd (false≢true e);
     }

@@ -14,24 +14,24 @@ loop-place-preserved g c =
     let value = read_mapped w.number c.args.shown.now i c.index-shown-place.result 0 (omega arith) c.index-shown-place.is in (
       omega arith,
       below_more _ _ c.loop-place.invariant.1
-          (λ refuses. c.in-default.ensures.missed-exactly-where-unwanted (subst₂ Unwanted (ap (λ x. x.wanted) cell) value refuses)),
+          (λ refuses. c.in_default.ensures.missed_exactly_where_unwanted (subst₂ Unwanted (ap (λ x. x.wanted) cell) value refuses)),
     )
 
 pub returns-in-Some : goal.returns-in-Some
 returns-in-Some g c =
     let w = g.W.Wheel in
     let i = c.loop-place.place in
-    let missed = c.in-Some.ensures.missed-exactly-where-unwanted in
+    let missed = c.in-Some.ensures.missed_exactly_where_unwanted in
     let cell = read_mapped (cell_of w) c.args.cells.now i c.index-cells-place.result idle (omega arith) c.index-cells-place.is in
     let value = read_mapped w.number c.args.shown.now i c.index-shown-place.result 0 (omega arith) c.index-shown-place.is in
     let again = read_mapped w.number c.args.shown.now i c.index-shown-place-in-Some.result 0 (omega arith) c.index-shown-place-in-Some.is in
     record {
-      is-the-first = record {
+      is_the_first = record {
         within = omega (arith, length-map c.args.cells.now (cell_of w));
         none_before = c.loop-place.invariant.1;
-        showing = c.digit.ensures.is-the-number ∙ sym again;
+        showing = c.digit.ensures.is_the_number ∙ sym again;
         wanting =
-            ap (λ x. x.wanted) cell ∙ ap (option_map w.number) missed.0 ∙ ap Some (sym c.digit-in-Some.ensures.is-the-number);
-        differing = λ e. missed.1 (sym value ∙ again ∙ sym c.digit.ensures.is-the-number ∙ e ∙ c.digit-in-Some.ensures.is-the-number);
+            ap (λ x. x.wanted) cell ∙ ap (option_map w.number) missed.0 ∙ ap Some (sym c.digit-in-Some.ensures.is_the_number);
+        differing = λ e. missed.1 (sym value ∙ again ∙ sym c.digit.ensures.is_the_number ∙ e ∙ c.digit-in-Some.ensures.is_the_number);
       };
     }

@@ -13,7 +13,7 @@ loop-place-preserved g c =
     let i = c.loop-place.place in
     let within : i < length shown = omega (arith, c.loop-place.invariant.1, c.loop-place.shown.ok.0) in
     let value : w.number c.turn.result ≡ (get_or (map w.number shown) i 0 + (get_or (map (cell_of w) cells) i idle).turn) % w.order =
-    c.turn.ensures.stands-for-the-sum
+    c.turn.ensures.stands_for_the_sum
     ∙ ap₂ (λ x y. (x + y) % w.order)
     (sym (read_mapped w.number shown i c.index.result.now 0 within c.index.ensures))
     (ap (λ x. x.turn) (sym (read_mapped (cell_of w) cells i c.index-cells-place.result idle c.loop-place-test.true c.index-cells-place.is))) in (

@@ -22,41 +22,41 @@ loop-step-preserved g c =
     let run = c.args.run.now in
     let step = c.loop-step.step in
     let now = vec_items c.loop-step.guard.shown.now in
-    let next = vec_items c.turn-all.new.shown in
+    let next = vec_items c.turn_all.new.shown in
     let found = c.in-Some.cells.now in
     let cells = map (cell_of w) found in
-    let row : cells ≡ map (λ p. cell p (get_or run step 0)) (view w net).places = c.in-Some.ensures.one-cell-for-each-place.row ∙ ap (λ s. map (λ p. cell p s) (view w net).places) c.from.ensures in
+    let row : cells ≡ map (λ p. cell p (get_or run step 0)) (view w net).places = c.in-Some.ensures.one_cell_for_each_place.row ∙ ap (λ s. map (λ p. cell p s) (view w net).places) c.from.ensures in
     let long : length found ≡ length cells = sym (length-map found (cell_of w)) in
     let none : NoneRefuses cells (map w.number now) (length cells) =
     subst (NoneRefuses cells (map w.number now)) long
-    (subst (λ shown. NoneRefuses cells (map w.number shown) (length found)) c.as-slice.ensures.value
-    (none_case c.first-refusing.result _ _ c.first-refusing.ensures.is-the-first (sym c.if-is-some.ensures))) in
+    (subst (λ shown. NoneRefuses cells (map w.number shown) (length found)) c.as_slice.ensures.value
+    (none_case c.first_refusing.result _ _ c.first_refusing.ensures.is_the_first (sym c.if-is_some.ensures))) in
     let turned : Turned w.order cells (map w.number now) (length cells) (map w.number next) =
-    subst (λ n. Turned w.order cells (map w.number now) n (map w.number next)) long c.turn-all.ensures.each-place-turns in (
-      going_more w net c.args.saved.now run now step c.loop-step.invariant.0 c.loop-step-test.true cells row (proper g.W.Wheel (lawful g) net) (number_below g.W.Wheel (lawful g) now) (c.requires.styles-known step c.loop-step-test.true) next none turned,
-      c.turn-all.ensures.as-many-places-as-before ∙ c.loop-step.invariant.1,
+    subst (λ n. Turned w.order cells (map w.number now) n (map w.number next)) long c.turn_all.ensures.each_place_turns in (
+      going_more w net c.args.saved.now run now step c.loop-step.invariant.0 c.loop-step-test.true cells row (proper g.W.Wheel (lawful g) net) (number_below g.W.Wheel (lawful g) now) (c.requires.styles_known step c.loop-step-test.true) next none turned,
+      c.turn_all.ensures.as_many_places_as_before ∙ c.loop-step.invariant.1,
     )
 
-pub returns-then-is-some : goal.returns-then-is-some
-returns-then-is-some g c =
+pub returns-then-is_some : goal.returns-then-is_some
+returns-then-is_some g c =
     let w = g.W.Wheel in
     let net = c.args.net.now in
     let run = c.args.run.now in
     let step = c.loop-step.step in
     let now = vec_items c.loop-step.guard.shown.now in
     let cells = map (cell_of w) c.in-Some.cells.now in
-    let row : cells ≡ map (λ p. cell p (get_or run step 0)) (view w net).places = c.in-Some.ensures.one-cell-for-each-place.row ∙ ap (λ s. map (λ p. cell p s) (view w net).places) c.from.ensures in
-    let found = some_case c.first-refusing.result _ _ c.first-refusing.ensures.is-the-first (sym c.if-is-some.ensures) in
-    let first : FirstRefuses cells (map w.number now) found.0 = subst (λ shown. FirstRefuses cells (map w.number shown) found.0) c.as-slice.ensures.value found.1 in
-    let known = c.requires.styles-known step c.loop-step-test.true in
+    let row : cells ≡ map (λ p. cell p (get_or run step 0)) (view w net).places = c.in-Some.ensures.one_cell_for_each_place.row ∙ ap (λ s. map (λ p. cell p s) (view w net).places) c.from.ensures in
+    let found = some_case c.first_refusing.result _ _ c.first_refusing.ensures.is_the_first (sym c.if-is_some.ensures) in
+    let first : FirstRefuses cells (map w.number now) found.0 = subst (λ shown. FirstRefuses cells (map w.number shown) found.0) c.as_slice.ensures.value found.1 in
+    let known = c.requires.styles_known step c.loop-step-test.true in
     record {
-      shows-again-what-it-showed = search rules;
-      as-many-as-before = search rules;
-      is-the-longest = λ before so.
+      shows_again_what_it_showed = search rules;
+      as_many_as_before = search rules;
+      is_the_longest = λ before so.
           stopped_longest w net c.args.saved.now run now step c.loop-step.invariant.0 c.loop-step-test.true cells row (proper g.W.Wheel (lawful g) net) (number_below g.W.Wheel (lawful g) now) known found.0 first before
-          (subst (λ values. Stands w net values before) (sym c.requires.saved-are-the-shown) so);
-      is-the-longest-to-fire =
-          subst (λ values. LongestFiring (test_and_flip (view w net)) (marks w values) run step) c.requires.saved-are-the-shown
+          (subst (λ values. Stands w net values before) (sym c.requires.saved_are_the_shown) so);
+      is_the_longest_to_fire =
+          subst (λ values. LongestFiring (test_and_flip (view w net)) (marks w values) run step) c.requires.saved_are_the_shown
           (stopped_firing w net c.args.saved.now run now step c.loop-step.invariant.0 c.loop-step-test.true cells row (proper g.W.Wheel (lawful g) net) (number_below g.W.Wheel (lawful g) now) known found.0 first);
     }
 
@@ -69,9 +69,9 @@ returns g c =
     let through : c.loop-step.step ≡ length run = omega arith in
     let whole = subst (Going w net c.args.saved.now now run) through c.loop-step.invariant.0 in
     record {
-      shows-again-what-it-showed = search rules;
-      as-many-as-before = search rules;
-      is-the-longest = λ before so. whole_longest w net c.args.saved.now run now whole before (subst (λ values. Stands w net values before) (sym c.requires.saved-are-the-shown) so);
-      is-the-longest-to-fire =
-          subst (λ values. LongestFiring (test_and_flip (view w net)) (marks w values) run (length run)) c.requires.saved-are-the-shown (whole_firing w net c.args.saved.now run now whole);
+      shows_again_what_it_showed = search rules;
+      as_many_as_before = search rules;
+      is_the_longest = λ before so. whole_longest w net c.args.saved.now run now whole before (subst (λ values. Stands w net values before) (sym c.requires.saved_are_the_shown) so);
+      is_the_longest_to_fire =
+          subst (λ values. LongestFiring (test_and_flip (view w net)) (marks w values) run (length run)) c.requires.saved_are_the_shown (whole_firing w net c.args.saved.now run now whole);
     }

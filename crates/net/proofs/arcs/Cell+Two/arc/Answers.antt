@@ -24,30 +24,30 @@ tested self x w t some wanted turn =
 
 pub returns-in-None : goal.returns-in-None
 returns-in-None c =
-    let e = untested c.args.self 1 c.in-None.is (sym c.digit-turns.ensures.is-the-number ∙ c.if-turns.true) in
-    record { is-the-cells-arc = e; has-the-cells-entries = ap (entries 2) (sym e) ∙ six_arcs.entries_listed complement; the-six-arcs-are-all-cells = six_arcs }
+    let e = untested c.args.self 1 c.in-None.is (sym c.digit-turns.ensures.is_the_number ∙ c.if-turns.true) in
+    record { is_the_cells_arc = e; has_the_cells_entries = ap (entries 2) (sym e) ∙ six_arcs.entries_listed complement; the_six_arcs_are_all_cells = six_arcs }
 
 pub returns-in-None-2 : goal.returns-in-None-2
 returns-in-None-2 c =
-    let e = untested c.args.self 0 c.in-None.is (clear c.args.self.turn.bit c.digit-turns.ensures.is-the-number c.if-turns.false) in
-    record { is-the-cells-arc = e; has-the-cells-entries = ap (entries 2) (sym e) ∙ six_arcs.entries_listed no_arc; the-six-arcs-are-all-cells = six_arcs }
+    let e = untested c.args.self 0 c.in-None.is (clear c.args.self.turn.bit c.digit-turns.ensures.is_the_number c.if-turns.false) in
+    record { is_the_cells_arc = e; has_the_cells_entries = ap (entries 2) (sym e) ∙ six_arcs.entries_listed no_arc; the_six_arcs_are_all_cells = six_arcs }
 
 pub returns-then-turns-2 : goal.returns-then-turns-2
 returns-then-turns-2 c =
-    let e = tested c.args.self c.in-Some.wanted 1 1 c.in-Some.is (sym c.digit.ensures.is-the-number ∙ c.if-digit-eq1.true) (sym c.digit-turns.ensures.is-the-number ∙ c.if-turns-2.true) in
-    record { is-the-cells-arc = e; has-the-cells-entries = ap (entries 2) (sym e) ∙ six_arcs.entries_listed empty; the-six-arcs-are-all-cells = six_arcs }
+    let e = tested c.args.self c.in-Some.wanted 1 1 c.in-Some.is (sym c.digit.ensures.is_the_number ∙ c.if-digit-eq1.true) (sym c.digit-turns.ensures.is_the_number ∙ c.if-turns-2.true) in
+    record { is_the_cells_arc = e; has_the_cells_entries = ap (entries 2) (sym e) ∙ six_arcs.entries_listed empty; the_six_arcs_are_all_cells = six_arcs }
 
 pub returns-else-turns-2 : goal.returns-else-turns-2
 returns-else-turns-2 c =
-    let e = tested c.args.self c.in-Some.wanted 1 0 c.in-Some.is (sym c.digit.ensures.is-the-number ∙ c.if-digit-eq1.true) (clear c.args.self.turn.bit c.digit-turns.ensures.is-the-number c.if-turns-2.false) in
-    record { is-the-cells-arc = e; has-the-cells-entries = ap (entries 2) (sym e) ∙ six_arcs.entries_listed test_one; the-six-arcs-are-all-cells = six_arcs }
+    let e = tested c.args.self c.in-Some.wanted 1 0 c.in-Some.is (sym c.digit.ensures.is_the_number ∙ c.if-digit-eq1.true) (clear c.args.self.turn.bit c.digit-turns.ensures.is_the_number c.if-turns-2.false) in
+    record { is_the_cells_arc = e; has_the_cells_entries = ap (entries 2) (sym e) ∙ six_arcs.entries_listed test_one; the_six_arcs_are_all_cells = six_arcs }
 
 pub returns-then-turns-3 : goal.returns-then-turns-3
 returns-then-turns-3 c =
-    let e = tested c.args.self c.in-Some.wanted 0 1 c.in-Some.is (clear c.in-Some.wanted.bit c.digit.ensures.is-the-number c.if-digit-eq1.false) (sym c.digit-turns.ensures.is-the-number ∙ c.if-turns-3.true) in
-    record { is-the-cells-arc = e; has-the-cells-entries = ap (entries 2) (sym e) ∙ six_arcs.entries_listed fill; the-six-arcs-are-all-cells = six_arcs }
+    let e = tested c.args.self c.in-Some.wanted 0 1 c.in-Some.is (clear c.in-Some.wanted.bit c.digit.ensures.is_the_number c.if-digit-eq1.false) (sym c.digit-turns.ensures.is_the_number ∙ c.if-turns-3.true) in
+    record { is_the_cells_arc = e; has_the_cells_entries = ap (entries 2) (sym e) ∙ six_arcs.entries_listed fill; the_six_arcs_are_all_cells = six_arcs }
 
 pub returns-else-turns-3 : goal.returns-else-turns-3
 returns-else-turns-3 c =
-    let e = tested c.args.self c.in-Some.wanted 0 0 c.in-Some.is (clear c.in-Some.wanted.bit c.digit.ensures.is-the-number c.if-digit-eq1.false) (clear c.args.self.turn.bit c.digit-turns.ensures.is-the-number c.if-turns-3.false) in
-    record { is-the-cells-arc = e; has-the-cells-entries = ap (entries 2) (sym e) ∙ six_arcs.entries_listed test_zero; the-six-arcs-are-all-cells = six_arcs }
+    let e = tested c.args.self c.in-Some.wanted 0 0 c.in-Some.is (clear c.in-Some.wanted.bit c.digit.ensures.is_the_number c.if-digit-eq1.false) (clear c.args.self.turn.bit c.digit-turns.ensures.is_the_number c.if-turns-3.false) in
+    record { is_the_cells_arc = e; has_the_cells_entries = ap (entries 2) (sym e) ∙ six_arcs.entries_listed test_zero; the_six_arcs_are_all_cells = six_arcs }

@@ -8,7 +8,7 @@ pub returns-then-place-places : goal.returns-then-place-places
 returns-then-place-places g c =
     let count = c.len-places.ensures ∙ places_counted g.W.Wheel c.args.self.now in
     record {
-      is-the-cell = λ h.
+      is_the_cell = λ h.
           elim c.then-place-places.branch [
             | then-place-places-via-then-place-places w ↦ omega (arith, w.if-place-places.true)
             | then-place-places-via-else-place-places+then-style-self w ↦ omega (arith, w.if-style-self.true)
@@ -30,5 +30,5 @@ returns g c =
     let read = subst (λ p. x ≡ get_or (vec_items net.cells) (c.args.style * p + c.args.place) x) e c.index.ensures in
     let here : c.args.place < length starts = omega (arith, e) in
     record {
-      is-the-cell = (omega (arith, c.len-places.ensures, places_counted w net), omega arith, cell_read w net.styles starts (vec_items net.cells) (cells_counted w net) c.args.place c.args.style x here (omega arith) read);
+      is_the_cell = (omega (arith, c.len-places.ensures, places_counted w net), omega arith, cell_read w net.styles starts (vec_items net.cells) (cells_counted w net) c.args.place c.args.style x here (omega arith) read);
     }

@@ -5,12 +5,12 @@ use Rattle.net.proofs.ByStyle.{row_read}
 use Rattle.net.proofs.Proper.{cells_counted, row_within}
 use Rattle.net.proofs.nets.Net.cells_for.Goals as goal
 
-pub offset-bounds-deref-from : goal.offset-bounds-deref-from
-offset-bounds-deref-from g c =
+pub offset_bounds-deref-from : goal.offset_bounds-deref-from
+offset_bounds-deref-from g c =
     omega (arith, row_within g.W.Wheel c.args.self.now c.args.style c.len-places.result c.deref.result.now (omega arith) c.len-places.ensures c.deref.ensures.value)
 
-pub slice-bounds-result-end : goal.slice-bounds-result-end
-slice-bounds-result-end g c =
+pub slice_bounds-result-end : goal.slice_bounds-result-end
+slice_bounds-result-end g c =
     row_within g.W.Wheel c.args.self.now c.args.style c.len-places.result c.deref.result.now (omega arith) c.len-places.ensures c.deref.ensures.value
 
 pub returns : goal.returns
@@ -25,7 +25,7 @@ returns g c =
     let cut : (style * p + p) - style * p ≡ length starts = omega (arith, e) in
     let within = row_within w net style p all (omega arith) c.len-places.ensures c.deref.ensures.value in
     record {
-      one-cell-for-each-place = record {
+      one_cell_for_each_place = record {
         known = omega arith;
         row =
             ap₂ (λ n d. map (cell_of w) (take n d)) cut (ap₂ drop (ap (λ z. style * z) e) c.deref.ensures.value)

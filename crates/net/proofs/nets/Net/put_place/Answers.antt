@@ -9,8 +9,8 @@ returns-then-place-places g c =
     let net = c.args.self.now in
     let places = laid_places g.W.Wheel net.styles (vec_items net.starts) (vec_items net.cells) in
     record {
-      put-or-refused = omega (arith, net.starts.ok.0, c.len-places.ensures);
-      refused-calls-change-nothing = λ _. refl;
+      put_or_refused = omega (arith, net.starts.ok.0, c.len-places.ensures);
+      refused_calls_change_nothing = λ _. refl;
     }
 
 pub returns-then-cells-self : goal.returns-then-cells-self
@@ -18,8 +18,8 @@ returns-then-cells-self g c =
     let net = c.args.self.now in
     let places = laid_places g.W.Wheel net.styles (vec_items net.starts) (vec_items net.cells) in
     record {
-      put-or-refused = (omega (arith, net.starts.ok.0, c.len-places.ensures), c.if-cells-self.true);
-      refused-calls-change-nothing = λ _. refl;
+      put_or_refused = (omega (arith, net.starts.ok.0, c.len-places.ensures), c.if-cells-self.true);
+      refused_calls_change_nothing = λ _. refl;
     }
 
 pub returns : goal.returns
@@ -28,14 +28,14 @@ returns g c =
     let net = c.args.self.now in
     let starts = vec_items net.starts in
     let cells = vec_items net.cells in
-    let after = vec_items c.write-column.new.table in
+    let after = vec_items c.write_column.new.table in
     let values = c.args.cells.now in
     let places = laid_places w net.styles starts cells in
     let width : c.len-places.result ≡ length starts = c.len-places.ensures ∙ net.starts.ok.0 in
     let size : length cells ≡ net.styles * length starts = sym net.cells.ok.0 ∙ net.one_cell_each ∙ ap (λ z. net.styles * z) net.starts.ok.0 in
     let within : c.args.place < length starts = omega (arith, width) in
-    let column = subst (λ z. ColumnWritten cells z c.args.place values (length values) after) width c.write-column.ensures.only-the-column-changes in
+    let column = subst (λ z. ColumnWritten cells z c.args.place values (length values) after) width c.write_column.ensures.only_the_column_changes in
     record {
-      put-or-refused = (omega (arith, width), c.if-cells-self.false, put_laid w net.styles starts cells after c.args.place c.args.start values within c.if-cells-self.false size column);
-      refused-calls-change-nothing = λ e. absurd (false≢true e);
+      put_or_refused = (omega (arith, width), c.if-cells-self.false, put_laid w net.styles starts cells after c.args.place c.args.start values within c.if-cells-self.false size column);
+      refused_calls_change_nothing = λ e. absurd (false≢true e);
     }

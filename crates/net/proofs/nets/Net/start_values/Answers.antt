@@ -11,9 +11,9 @@ pub returns : goal.returns
 returns g c =
     let net = c.args.self.now in
     record {
-      copies-the-start-values =
-          made_more c.from-slice.result _ _
-          (λ v is. ap (map g.W.Wheel.number) (is.0 ∙ c.deref.ensures.value) ∙ starts_read g.W.Wheel net.styles (vec_items net.starts) (vec_items net.cells))
-          c.from-slice.ensures.made;
-      one-for-each-place = made_more c.from-slice.result _ _ (λ v is. is.1 ∙ c.deref.ensures.len) c.from-slice.ensures.made;
+      copies_the_start_values =
+          made_more c.from_slice.result _ _
+          (λ v is. ap (map g.W.Wheel.number) (is ∙ c.deref.ensures.value) ∙ starts_read g.W.Wheel net.styles (vec_items net.starts) (vec_items net.cells))
+          c.from_slice.ensures.items;
+      one_for_each_place = made_more c.from_slice.result _ _ (λ v is. is ∙ c.deref.ensures.len) c.from_slice.ensures.len;
     }

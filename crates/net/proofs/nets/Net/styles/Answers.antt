@@ -10,6 +10,6 @@ lawful g = let laws = g.met.W.Wheel in record { from_two = laws.at_least_two; to
 pub returns : goal.returns
 returns g c =
     record {
-      counts-the-styles = refl;
-      every-net-is-proper = proper g.W.Wheel (lawful g) c.args.self.now;
+      counts_the_styles = refl;
+      every_net_is_proper = proper g.W.Wheel (lawful g) c.args.self.now;
     }

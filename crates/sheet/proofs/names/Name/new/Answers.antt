@@ -28,7 +28,7 @@ invariant-of-result c =
     let bytes = c.args.bytes.now in
     let copy = c.copy-from-slice.new.self in
     let same = c.copy-from-slice.ensures.after in
-    let form : NameForm bytes = c.is-name.ensures.decides-the-name-form.0 c.if-not-is-name.false in (
+    let form : NameForm bytes = c.is_name.ensures.decides_the_name_form.0 c.if-not-is-name.false in (
       copied_size bytes copy (replicate 12 0) same form.few,
       (
         form.some,
@@ -44,5 +44,5 @@ unfolding copied
 returns c =
     let bytes = c.args.bytes.now in
     record {
-      stores-the-bytes-of-a-name = (c.is-name.ensures.decides-the-name-form.0 c.if-not-is-name.false, copied_front bytes c.copy-from-slice.new.self (replicate 12 0) c.copy-from-slice.ensures.after);
+      stores_the_bytes_of_a_name = (c.is_name.ensures.decides_the_name_form.0 c.if-not-is-name.false, copied_front bytes c.copy-from-slice.new.self (replicate 12 0) c.copy-from-slice.ensures.after);
     }

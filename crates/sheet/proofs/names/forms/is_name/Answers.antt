@@ -20,10 +20,10 @@ only_word {bytes} {word} {rest} first none = subst NameForm (sym (first.opens �
 
 pub returns-in-Some : goal.returns-in-Some
 returns-in-Some c =
-    let first = c.in-Some.ensures.splits-off-the-first-word in
+    let first = c.in-Some.ensures.splits_off_the_first_word in
     let rest = c.in-Some.rest.now in
     record {
-      decides-the-name-form = (
+      decides_the_name_form = (
         λ e. only_word first (nil_from_length rest (eqb-true (length rest) 0 (sym c.is-empty.ensures ∙ e))),
         λ form. c.is-empty.ensures ∙ eq-eqb (length rest) 0 (ap length (one_word first (whole_word form)).1),
       );
@@ -31,5 +31,5 @@ returns-in-Some c =
 
 pub returns-in-None : goal.returns-in-None
 returns-in-None c = record {
-  decides-the-name-form = (λ e. absurd (false≢true e), λ form. absurd (c.in-None.ensures.splits-off-the-first-word _ _ (whole_word form)));
+  decides_the_name_form = (λ e. absurd (false≢true e), λ form. absurd (c.in-None.ensures.splits_off_the_first_word _ _ (whole_word form)));
 }

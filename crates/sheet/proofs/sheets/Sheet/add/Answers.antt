@@ -20,8 +20,8 @@ pub invariant-of-self : goal.invariant-of-self
 invariant-of-self c =
     let sheet = c.args.self.now in
     let room : sheet.count < style_limit = omega (arith, sheet.few) in
-    let new = c.in-Some.ensures.stores-the-bytes-of-a-name in
-    let none = c.in-default-find.ensures.is-the-style-of-the-name in (
+    let new = c.in-Some.ensures.stores_the_bytes_of_a_name in
+    let none = c.in-default-find.ensures.is_the_style_of_the_name in (
       length-set sheet.names sheet.count c.in-Some.stored ∙ sheet.size,
       (
         omega arith,
@@ -36,8 +36,8 @@ pub returns : goal.returns
 returns c =
     let sheet = c.args.self.now in
     let room : sheet.count < style_limit = omega (arith, sheet.few) in
-    let new = c.in-Some.ensures.stores-the-bytes-of-a-name in
+    let new = c.in-Some.ensures.stores_the_bytes_of_a_name in
     record {
-      added-last-or-refused = (new.0, c.in-default-find.ensures.is-the-style-of-the-name, omega (arith, names_count sheet), pushed sheet c.in-Some.stored c.args.name.now room new.1);
-      refused-calls-change-nothing = λ e. absurd (false≢true e);
+      added_last_or_refused = (new.0, c.in-default-find.ensures.is_the_style_of_the_name, omega (arith, names_count sheet), pushed sheet c.in-Some.stored c.args.name.now room new.1);
+      refused_calls_change_nothing = λ e. absurd (false≢true e);
     }

@@ -5,4 +5,4 @@ use Rattle.sheet.proofs.sheets.Sheet.count.Goals as goal
 pub returns : goal.returns
 returns c =
     let sheet = c.args.self.now in
-    record { counts-the-names = sym (names_count sheet); names-are-formed-and-different = names_formed sheet; at-most-sixteen-names = names_few sheet }
+    record { counts_the_names = sym (names_count sheet); names_are_formed_and_different = names_formed sheet; at_most_sixteen_names = names_few sheet }

@@ -25,7 +25,7 @@ returns-then-eq c =
     let sheet = c.args.self.now in
     let found = item sheet c.loop-style.style c.stored-item.result c.loop-style-test.true c.stored-item.is in
     let same = (slice_eq-Decides Decides-eqb c.bytes.result.now c.args.name.now c.eq.result c.eq.ensures).0 c.if-eq.true in
-    record { is-the-style-of-the-name = (omega (arith, names_count sheet, searched sheet, c.loop-style-test.true), found ∙ sym c.bytes.ensures.are-the-bytes-stored ∙ same) }
+    record { is_the_style_of_the_name = (omega (arith, names_count sheet, searched sheet, c.loop-style-test.true), found ∙ sym c.bytes.ensures.are_the_bytes_stored ∙ same) }
 
 pub loop-style-preserved : goal.loop-style-preserved
 loop-style-preserved c =
@@ -33,9 +33,9 @@ loop-style-preserved c =
     let read = item sheet c.loop-style.style c.stored-item.result c.loop-style-test.true c.stored-item.is in
     let decides = slice_eq-Decides Decides-eqb c.bytes.result.now c.args.name.now c.eq.result c.eq.ensures in
     below_more (λ i. get_or (names_of sheet) i [] ≡ c.args.name.now → ⊥) c.loop-style.style c.loop-style.invariant
-    (λ e. not_from_Decides c.eq.result decides c.if-eq.false (c.bytes.ensures.are-the-bytes-stored ∙ sym read ∙ e))
+    (λ e. not_from_Decides c.eq.result decides c.if-eq.false (c.bytes.ensures.are_the_bytes_stored ∙ sym read ∙ e))
 
 pub returns : goal.returns
 returns c =
     let sheet = c.args.self.now in
-    record { is-the-style-of-the-name = λ i h. c.loop-style.invariant i (omega (arith, names_count sheet, searched sheet, c.loop-style-test.false)) }
+    record { is_the_style_of_the_name = λ i h. c.loop-style.invariant i (omega (arith, names_count sheet, searched sheet, c.loop-style-test.false)) }

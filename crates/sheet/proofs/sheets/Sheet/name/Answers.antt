@@ -10,4 +10,4 @@ pub returns : goal.returns
 returns c =
     let sheet = c.args.self.now in
     let e = first_names_at sheet.names sheet.count c.args.style c.index-self-style.result (omega (arith, sheet.size, sheet.few)) c.if-style-self.false c.index-self-style.is in
-    record { is-the-name-of-the-style = (omega (arith, names_count sheet), cc) }
+    record { is_the_name_of_the_style = (omega (arith, names_count sheet), cc) }

@@ -19,4 +19,4 @@ pub returns : goal.returns
 returns c =
     let x = c.args.self in
     let y = c.args.by in
-    record { stands-for-the-product = right x.value y.value x.at_least_minus_one x.at_most_one y.at_least_minus_one y.at_most_one }
+    record { stands_for_the_product = right x.value y.value x.at_least_minus_one x.at_most_one y.at_least_minus_one y.at_most_one }

@@ -4,9 +4,9 @@ use Rattle.galley.proofs.galleys.restoring.Restoring.drop.Goals as goal
 
 pub returns : goal.returns
 returns g c =
-    let copied = c.copy-from-slice.ensures.after in
+    let copied = c.copy_from_slice.ensures.after in
     record {
-      shows-what-was-saved =
-          with_items_is c.args.self.shown.now c.copy-from-slice.new.self (ap length copied ∙ c.requires.a-saved-value-for-each) ∙ copied;
-      as-many-as-before = refl;
+      shows_what_was_saved =
+          with_items_is c.args.self.shown.now c.copy_from_slice.new.self (ap length copied ∙ c.requires.a_saved_value_for_each) ∙ copied;
+      as_many_as_before = refl;
     }
