@@ -11,15 +11,15 @@ read : (key bytes left : List ℕ) (low high : ℕ) (r : Option (ℕ × Bor (Lis
 read key bytes left low high None e none = λ v rest h. none v rest (past_key key bytes left low high v rest e h)
 read key bytes left low high (Some x) e h = after_key key bytes left low high x.0 x.1.now e h
 
-pub returns-in-err-literal : goal.returns-in-err-literal
-returns-in-err-literal c =
-    rw c.from-residual.ensures
+pub returns-in_err-literal : goal.returns-in_err-literal
+returns-in_err-literal c =
+    rw c.from_residual.ensures
     (record {
       reads_a_number_after_the_key = λ v rest h.
-          c.in-err-literal.ensures.gives_what_follows_the_key (decimal v ++ (10 ∷ rest)) (h.opens ∙ append_assoc c.args.key.now (decimal v) (10 ∷ rest));
+          c.in_err-literal.ensures.gives_what_follows_the_key (decimal v ++ (10 ∷ rest)) (h.opens ∙ append_assoc c.args.key.now (decimal v) (10 ∷ rest));
     })
 
 pub returns : goal.returns
 returns c = record {
-  reads_a_number_after_the_key = read c.args.key.now c.args.bytes.now c.in-ok-literal.field-0.now c.args.low c.args.high c.number.result c.in-ok-literal.ensures.gives_what_follows_the_key c.number.ensures.reads_a_number_from_low_to_high;
+  reads_a_number_after_the_key = read c.args.key.now c.args.bytes.now c.in_ok-literal.field-0.now c.args.low c.args.high c.number.result c.in_ok-literal.ensures.gives_what_follows_the_key c.number.ensures.reads_a_number_from_low_to_high;
 }

@@ -22,27 +22,23 @@ module _ (bytes copy before : List ℕ) (same : copy ≡ bytes) where
   copied_byte i h =
       get_or_append_left copy (drop (length bytes - 0) before) 0 i (omega (arith, ap length same)) ∙ ap (λ xs. get_or xs i 0) same
 
-pub invariant-of-result : goal.invariant-of-result
+pub invariant_of-result : goal.invariant_of-result
 unfolding copied
-invariant-of-result c =
+invariant_of-result c =
     let bytes = c.args.bytes.now in
-    let copy = c.copy-from-slice.new.self in
-    let same = c.copy-from-slice.ensures.after in
-    let form : NameForm bytes = c.is_name.ensures.decides_the_name_form.0 c.if-not-is-name.false in (
-      copied_size bytes copy (replicate 12 0) same form.few,
-      (
-        form.some,
-        (
-          form.few,
-          (λ i h. ap name_byte (copied_byte bytes copy (replicate 12 0) same i h) ∙ form.bytes i h, tt),
-        ),
-      ),
-    )
+    let copy = c.copy_from_slice.new.self in
+    let same = c.copy_from_slice.ensures.after in
+    let form : NameForm bytes = c.is_name.ensures.decides_the_name_form.0 c.if-not-is_name.false in record {
+      size = copied_size bytes copy (replicate 12 0) same form.few;
+      some = form.some;
+      few = form.few;
+      formed = λ i h. ap name_byte (copied_byte bytes copy (replicate 12 0) same i h) ∙ form.bytes i h;
+    }
 
 pub returns : goal.returns
 unfolding copied
 returns c =
     let bytes = c.args.bytes.now in
     record {
-      stores_the_bytes_of_a_name = (c.is_name.ensures.decides_the_name_form.0 c.if-not-is-name.false, copied_front bytes c.copy-from-slice.new.self (replicate 12 0) c.copy-from-slice.ensures.after);
+      stores_the_bytes_of_a_name = (c.is_name.ensures.decides_the_name_form.0 c.if-not-is_name.false, copied_front bytes c.copy_from_slice.new.self (replicate 12 0) c.copy_from_slice.ensures.after);
     }

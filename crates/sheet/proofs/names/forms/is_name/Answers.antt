@@ -24,8 +24,8 @@ returns-in-Some c =
     let rest = c.in-Some.rest.now in
     record {
       decides_the_name_form = (
-        λ e. only_word first (nil_from_length rest (eqb-true (length rest) 0 (sym c.is-empty.ensures ∙ e))),
-        λ form. c.is-empty.ensures ∙ eq-eqb (length rest) 0 (ap length (one_word first (whole_word form)).1),
+        λ e. only_word first (nil_from_length rest (eqb-true (length rest) 0 (sym c.is_empty.ensures ∙ e))),
+        λ form. c.is_empty.ensures ∙ eq-eqb (length rest) 0 (ap length (one_word first (whole_word form)).1),
       );
     }
 

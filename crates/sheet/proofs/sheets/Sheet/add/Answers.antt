@@ -16,21 +16,16 @@ pushed : (sheet : Sheet) (name : Name) (bytes : List ℕ) → sheet.count < styl
 pushed sheet name bytes room e =
     first_names_push sheet.names sheet.count name (omega (arith, sheet.size)) ∙ ap (λ b. names_of sheet ++ (b ∷ [])) e
 
-pub invariant-of-self : goal.invariant-of-self
-invariant-of-self c =
+pub invariant_of-self : goal.invariant_of-self
+invariant_of-self c =
     let sheet = c.args.self.now in
     let room : sheet.count < style_limit = omega (arith, sheet.few) in
     let new = c.in-Some.ensures.stores_the_bytes_of_a_name in
-    let none = c.in-default-find.ensures.is_the_style_of_the_name in (
-      length-set sheet.names sheet.count c.in-Some.stored ∙ sheet.size,
-      (
-        omega arith,
-        (
-          subst Different (sym (pushed sheet c.in-Some.stored c.args.name.now room new.1)) (different_push (names_of sheet) c.args.name.now sheet.different none),
-          tt,
-        ),
-      ),
-    )
+    let none = c.in_default-find.ensures.is_the_style_of_the_name in record {
+      size = length-set sheet.names sheet.count c.in-Some.stored ∙ sheet.size;
+      few = omega arith;
+      different = subst Different (sym (pushed sheet c.in-Some.stored c.args.name.now room new.1)) (different_push (names_of sheet) c.args.name.now sheet.different none);
+    }
 
 pub returns : goal.returns
 returns c =
@@ -38,6 +33,6 @@ returns c =
     let room : sheet.count < style_limit = omega (arith, sheet.few) in
     let new = c.in-Some.ensures.stores_the_bytes_of_a_name in
     record {
-      added_last_or_refused = (new.0, c.in-default-find.ensures.is_the_style_of_the_name, omega (arith, names_count sheet), pushed sheet c.in-Some.stored c.args.name.now room new.1);
+      added_last_or_refused = (new.0, c.in_default-find.ensures.is_the_style_of_the_name, omega (arith, names_count sheet), pushed sheet c.in-Some.stored c.args.name.now room new.1);
       refused_calls_change_nothing = λ e. absurd (false≢true e);
     }
