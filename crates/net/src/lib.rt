@@ -2,3 +2,5 @@ pub mod arcs;
 pub mod cells;
 pub mod filling;
 pub mod nets;
+
+pub use theory::limits;
