@@ -1,2 +1,4 @@
 // Galleys: a galley stands on a net and plays it.
+#![tactic(auto)]
+
 pub mod galleys;

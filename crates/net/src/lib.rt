@@ -1,3 +1,5 @@
+#![tactic(auto)]
+
 pub mod arcs;
 pub mod cells;
 pub mod filling;

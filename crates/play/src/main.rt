@@ -1,4 +1,6 @@
 // Plays a net of three styles over the styles that are named as arguments, and prints what each step did.
+#![tactic(auto)]
+
 use crate::lines::{answer_line, arc_word, menu_line};
 use crate::sample::{sample_net, style_named};
 use anyhow::anyhow;

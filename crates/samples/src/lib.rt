@@ -1,3 +1,5 @@
+#![tactic(auto)]
+
 // Tests of nets and galleys on small examples.
 #[cfg(test)]
 mod galleys;

@@ -1,2 +1,4 @@
+#![tactic(auto)]
+
 mod names;
 pub mod sheets;

@@ -1,10 +1,10 @@
 -- Keys, numbers, names and places have no line feed in them. Assumes nothing.
-use Rattle.std.proofs.Common.{◌≡◌, ℕ, suc, ◌+◌, ◌%◌, ◌^◌, ◌<◌, ◌≤◌, Bool, true, false, not, ◌&&◌, eqb, List, [], ◌∷◌, ◌++◌, map, length, get_or, Some, None, codes, decimal, Option, sym, refl, ap, ◌∙◌, arith}
+use Rattle.std.proofs.Common.{◌≡◌, ℕ, ◌+◌, ◌%◌, ◌^◌, ◌<◌, Bool, true, false, not, ◌&&◌, eqb, List, [], ◌∷◌, ◌++◌, map, length, get_or, Some, None, codes, decimal, Option, sym, refl, ap, ◌∙◌, arith}
 use Rattle.std.specs.List.{flat_map, AllByRecursion as All}
 use Rattle.std.proofs.lemmas.Fmt.{decimal_by_steps, decimal_injective}
 use Rattle.std.proofs.ByRecursion.{All-append, All-from_get_or, All-map}
 use Rattle.std.proofs.lemmas.List.{append_cancel_left}
-use Rattle.std.proofs.lemmas.Bool.{and_parts, ne_eqb, not-true, both_ways, false≢true, true≢false}
+use Rattle.std.proofs.lemmas.Bool.{and_parts, ne_eqb, not-true, false≢true}
 use Rattle.theory.specs.Places.{Cell, Place}
 use Rattle.texts.specs.Forms.{wheel_line, styles_line, style_line}
 use Rattle.texts.specs.Lines.{line_feed}

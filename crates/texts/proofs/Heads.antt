@@ -1,14 +1,12 @@
 -- Reading the lines that both texts open with, and the style lines. Assumes nothing.
-use Rattle.std.proofs.Common.{◌≡◌, ℕ, zero, suc, ◌+◌, ◌^◌, ◌<◌, ◌≤◌, List, [], ◌∷◌, ◌++◌, map, length, get_or, sym, refl, ap, ◌∙◌, subst, ap₂, arith}
-use Rattle.std.specs.List.{AllByRecursion as All}
-use Rattle.std.proofs.lemmas.List.{append_assoc, get_or-map, length-map, map_push, get_or_append_left, get_or_at, length_push}
-use Rattle.std.proofs.lemmas.Bool.{cases_lt}
-use Rattle.texts.specs.Forms.{wheel_line, styles_line, style_line, WheelGood, StylesGood, LineOf, opens, names_wheel, counts_styles, names_style, in_body, Formed, DifferentTo}
-use Rattle.texts.specs.Lines.{line_feed, text_of, lines, line}
+use Rattle.std.proofs.Common.{◌≡◌, ℕ, zero, suc, ◌+◌, ◌^◌, ◌<◌, ◌≤◌, List, [], ◌∷◌, ◌++◌, map, length, get_or, sym, refl, ap, ◌∙◌, subst, arith}
+use Rattle.std.proofs.lemmas.List.{get_or-map, length-map}
+use Rattle.texts.specs.Forms.{wheel_line, styles_line, style_line, WheelGood, StylesGood, LineOf, opens, names_wheel, counts_styles, names_style, Formed, DifferentTo}
+use Rattle.texts.specs.Lines.{line_feed, line}
 use Rattle.texts.specs.Names.{NameForm, NamesFormed, Different}
-use Rattle.texts.proofs.Bytes.{free_wheel_line, free_styles_line, free_style_line, free_style_lines, same_wheel, same_styles, same_style}
-use Rattle.texts.proofs.Forms.{at_opening, at_wheel, at_styles, at_style, Done, done_line, done_count, done_more, next_line, Next, goes_on}
-use Rattle.texts.proofs.Lines.{Free, lines_text_of, text_of_append, ended_rest, text_of_rest}
+use Rattle.texts.proofs.Bytes.{same_wheel, same_styles, same_style}
+use Rattle.texts.proofs.Forms.{at_opening, at_wheel, at_styles, at_style, Done, done_line, done_count, Next, goes_on}
+use Rattle.texts.proofs.Lines.{text_of_rest}
 
 pub wheel_fits : (k : ℕ) → WheelGood k → k < 2 ^ 64
 wheel_fits k good = omega (arith, good.to_nine)

@@ -1,9 +1,9 @@
 -- Lines that have no line feed in them, and the lines of a text that is made of such. Assumes nothing.
-use Rattle.std.proofs.Common.{◌≡◌, ℕ, zero, suc, ◌+◌, ◌<◌, ◌≤◌, Bool, true, false, eqb, List, [], ◌∷◌, ◌++◌, length, get_or, sym, refl, ap, ◌∙◌, subst, arith}
-use Rattle.std.specs.List.{flat_map, AllByRecursion as All}
+use Rattle.std.proofs.Common.{◌≡◌, ℕ, Bool, true, false, eqb, List, [], ◌∷◌, ◌++◌, sym, refl, ap, ◌∙◌, subst, arith}
+use Rattle.std.specs.List.{AllByRecursion as All}
 use Rattle.std.proofs.lemmas.List.{append_assoc}
-use Rattle.std.proofs.lemmas.Bool.{eqb-true, false≢true}
-use Rattle.texts.specs.Lines.{line_feed, ended, text_of, in_front, lines, line}
+use Rattle.std.proofs.lemmas.Bool.{eqb-true}
+use Rattle.texts.specs.Lines.{line_feed, ended, text_of, in_front, lines}
 
 -- no byte is a line feed
 abbrev pub Free : List ℕ → Type 0

@@ -1,5 +1,5 @@
 -- A small net and its text, written out. Assumes nothing.
-use Rattle.std.specs.Prelude.{◌≡◌, ℕ, List, [], ◌∷◌, Some, None, codes, refl}
+use Rattle.std.specs.Prelude.{◌≡◌, ℕ, List, [], ◌∷◌, Some, None, codes}
 use Rattle.theory.specs.Nets as N
 use Rattle.theory.specs.Places as P
 use Rattle.texts.specs.NetText.{net_text}

@@ -1,5 +1,5 @@
 -- The lines that both texts open with, and the form of every line. Assumes nothing.
-use Rattle.std.specs.Prelude.{◌≡◌, ℕ, ◌+◌, ◌<◌, ◌≤◌, List, [], ◌∷◌, ◌++◌, length, codes, decimal, ◌≢◌}
+use Rattle.std.specs.Prelude.{◌≡◌, ℕ, ◌+◌, ◌<◌, ◌≤◌, List, ◌++◌, length, codes, decimal, ◌≢◌}
 use Rattle.theory.specs.Limits.{style_limit}
 use Rattle.texts.specs.Lines.{lines, line}
 use Rattle.texts.specs.Names.{NameForm}

@@ -1,8 +1,8 @@
 -- The text of a net and its names. Assumes nothing.
-use Rattle.std.specs.Prelude.{◌≡◌, ℕ, suc, ◌+◌, ◌<◌, ◌≤◌, List, [], ◌∷◌, ◌++◌, map, length, Some, None, codes, decimal, Option}
+use Rattle.std.specs.Prelude.{◌≡◌, ℕ, ◌+◌, List, [], ◌∷◌, ◌++◌, map, length, Some, None, codes, decimal, Option}
 use Rattle.std.specs.List.{flat_map}
 use Rattle.theory.specs.Nets.{Net, Proper}
-use Rattle.theory.specs.Places.{Cell, Place, PlaceOn}
+use Rattle.theory.specs.Places.{Cell, Place}
 use Rattle.texts.specs.Forms.{wheel_line, styles_line, style_line}
 use Rattle.texts.specs.Lines.{text_of}
 use Rattle.texts.specs.Names.{Sheet}

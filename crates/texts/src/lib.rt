@@ -1,4 +1,6 @@
 // The two texts of the engine: their definitions, and a function for each law about them.
+#![tactic(auto)]
+
 ghost use Rattle.texts.specs.CaseFaults.{OneAnswer as OneCaseAnswer};
 ghost use Rattle.texts.specs.CaseText.{OneCase};
 ghost use Rattle.texts.specs.Example.{ExampleText};

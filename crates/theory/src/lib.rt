@@ -1,5 +1,7 @@
 // The mathematics of the engine: definitions in specs/, and their laws in proofs/.
 // A law that speaks of definitions alone is the contract of a function here, so that the check asks for its proof.
+#![tactic(auto)]
+
 ghost use Rattle.theory.specs.Playing.{AcceptedAreLetThrough};
 
 pub mod limits;

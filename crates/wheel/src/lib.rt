@@ -1,4 +1,6 @@
 // Arithmetic modulo k: what a wheel is, and the wheels of two, three and four.
+#![tactic(auto)]
+
 pub mod dividing;
 pub mod four;
 pub mod orders;
