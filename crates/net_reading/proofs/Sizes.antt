@@ -24,8 +24,8 @@ module _ {W : Type 0} (w : Ghosts W) where
   }
 
   -- an idle net has the sizes that it was made with
-  pub idle_styles : (net : Net W) (n p : ℕ) → view w net ≡ idle_net w n p → (view w net).styles ≡ n
+  pub idle_styles : (net : Net W w) (n p : ℕ) → view w net ≡ idle_net w n p → (view w net).styles ≡ n
   idle_styles net n p is = ap (λ N. N.styles) is
 
-  pub idle_places : (net : Net W) (n p q : ℕ) → view w net ≡ idle_net w n q → q ≡ p → length (view w net).places ≡ p
+  pub idle_places : (net : Net W w) (n p q : ℕ) → view w net ≡ idle_net w n q → q ≡ p → length (view w net).places ≡ p
   idle_places net n p q is same = ap (λ N. length N.places) is ∙ length-replicate q _ ∙ same

@@ -48,7 +48,7 @@ RefusedExactly k text (Ok x) = IsNetText k text
 RefusedExactly k text (Err fault) = OnSome (fault_of fault) (IsNetText k text → ⊥)
 
 -- a net and a sheet whose text this is, or the text's first fault
-abbrev pub Parsed : {W : Type 0} → (w : Ghosts W) → List ℕ → Result (Net W × Names) TextFault → Type 0
+abbrev pub Parsed : {W : Type 0} → (w : Ghosts W) → List ℕ → Result (Net W w × Names) TextFault → Type 0
 Parsed w text (Ok (net, sheet)) = (length (names_of sheet) ≡ (view w net).styles) × (text ≡ net_text (view w net) (names_of sheet))
 Parsed w text (Err fault) = Faulty w.order text fault
 

@@ -8,19 +8,19 @@ use Rattle.texts.specs.NetText.{net_end}
 use Rattle.net_reading.specs.Reading.{extra}
 use Rattle.net_reading.proofs.heads.read_end.Goals as goal
 
-pub returns-then-not-is-empty : goal.returns-then-not-is-empty
-returns-then-not-is-empty c =
-    let some = allowed _ _ _ c.in-ok-rest.ensures.value in
+pub returns-then-not-is_empty : goal.returns-then-not-is_empty
+returns-then-not-is_empty c =
+    let some = allowed _ _ _ c.in_ok-rest.ensures.value in
     record {
       at_the_end_or_faulty =
-          extra {rest = c.in-ok-rest.rest.now} (rw add-one at c.form-then-not-is-empty.ensures.is_a_fault_of_form) (MatchOption-at_some _ _ _ some c.literal.ensures.gives_what_follows_the_key)
-          (λ e. eqb-false _ 0 (sym c.if-not-is-empty.ensures) (ap length e));
+          extra {rest = c.in_ok-rest.rest.now} (rw add-one at c.form-then-not-is_empty.ensures.is_a_fault_of_form) (MatchOption-at_some _ _ _ some c.literal.ensures.gives_what_follows_the_key)
+          (λ e. eqb-false _ 0 (sym c.if-not-is_empty.ensures) (ap length e));
     }
 
 pub returns : goal.returns
 returns c =
-    let some = allowed _ _ _ c.in-ok-rest.ensures.value in
-    let none : c.in-ok-rest.rest.now ≡ [] = nil_from_length _ (eqb-true _ 0 (sym c.if-not-is-empty.ensures)) in
+    let some = allowed _ _ _ c.in_ok-rest.ensures.value in
+    let none : c.in_ok-rest.rest.now ≡ [] = nil_from_length _ (eqb-true _ 0 (sym c.if-not-is_empty.ensures)) in
     record {
       at_the_end_or_faulty = MatchOption-at_some _ _ _ some c.literal.ensures.gives_what_follows_the_key ∙ ap (λ r. net_end ++ (line_feed ∷ r)) none;
     }

@@ -8,57 +8,57 @@ use Rattle.texts.proofs.NetStages.{fault_opening, fault_wheel_line, fault_other_
 use Rattle.net_reading.proofs.FirstFaults.{form_told, wheel_number, styles_number, no_wheel_line, no_styles_line, opening_done, wheel_done, three_lines}
 use Rattle.net_reading.proofs.heads.read_head.Goals as goal
 
-pub returns-in-err-rest : goal.returns-in-err-rest
-returns-in-err-rest c =
-    let p = err_from_is_err_and c.from-residual.result c.from-residual.ensures.1 in
-    let none = refused _ _ _ c.in-err-rest.ensures.value in
+pub returns-in_err-rest : goal.returns-in_err-rest
+returns-in_err-rest c =
+    let p = err_from_is_err_and c.from_residual.result c.from_residual.ensures.1 in
+    let none = refused _ _ _ c.in_err-rest.ensures.value in
     rw (p.1, p.2)
     record {
       reads_three_lines_or_tells_the_first_fault =
-          form_told _ _ _ 1 (none.1 ∙ c.form.ensures.is_a_fault_of_form) (fault_opening c.if-text-gt-TEXT-LIMIT.false c.requires.a_wheel_of_a_text (λ after. MatchOption-at_none _ _ none.0 c.literal.ensures.gives_what_follows_the_key after));
+          form_told _ _ _ 1 (none.1 ∙ c.form.ensures.is_a_fault_of_form) (fault_opening c.if-text-gt-TEXT_LIMIT.false c.requires.a_wheel_of_a_text (λ after. MatchOption-at_none _ _ none.0 c.literal.ensures.gives_what_follows_the_key after));
     }
 
-pub returns-in-err-named : goal.returns-in-err-named
-returns-in-err-named c =
-    let p = err_from_is_err_and c.from-residual-in-err-named.result c.from-residual-in-err-named.ensures.1 in
-    let none = refused _ _ _ c.in-err-named.ensures.value in
-    let rest = c.in-ok-rest.rest.now in
-    let opened = MatchOption-at_some _ _ _ (allowed _ _ _ c.in-ok-rest.ensures.value) c.literal.ensures.gives_what_follows_the_key in
+pub returns-in_err-named : goal.returns-in_err-named
+returns-in_err-named c =
+    let p = err_from_is_err_and c.from_residual-in_err-named.result c.from_residual-in_err-named.ensures.1 in
+    let none = refused _ _ _ c.in_err-named.ensures.value in
+    let rest = c.in_ok-rest.rest.now in
+    let opened = MatchOption-at_some _ _ _ (allowed _ _ _ c.in_ok-rest.ensures.value) c.literal.ensures.gives_what_follows_the_key in
     rw (p.1, p.2)
     record {
       reads_three_lines_or_tells_the_first_fault =
-          form_told _ _ _ 2 (none.1 ∙ c.form-2.ensures.is_a_fault_of_form) (fault_wheel_line c.if-text-gt-TEXT-LIMIT.false rest c.requires.a_wheel_of_a_text (opening_done _ rest opened) (no_wheel_line (MatchOption-at_none _ _ none.0 c.keyed_number.ensures.reads_a_number_after_the_key)));
+          form_told _ _ _ 2 (none.1 ∙ c.form-2.ensures.is_a_fault_of_form) (fault_wheel_line c.if-text-gt-TEXT_LIMIT.false rest c.requires.a_wheel_of_a_text (opening_done _ rest opened) (no_wheel_line (MatchOption-at_none _ _ none.0 c.keyed_number.ensures.reads_a_number_after_the_key)));
     }
 
 pub returns-then-named-from : goal.returns-then-named-from
 returns-then-named-from c =
-    let rest = c.in-ok-rest.rest.now in
-    let opened = MatchOption-at_some _ _ _ (allowed _ _ _ c.in-ok-rest.ensures.value) c.literal.ensures.gives_what_follows_the_key in
-    let named = MatchOption-at_some _ _ _ (allowed _ _ _ c.in-ok-named.ensures.value) c.keyed_number.ensures.reads_a_number_after_the_key in
+    let rest = c.in_ok-rest.rest.now in
+    let opened = MatchOption-at_some _ _ _ (allowed _ _ _ c.in_ok-rest.ensures.value) c.literal.ensures.gives_what_follows_the_key in
+    let named = MatchOption-at_some _ _ _ (allowed _ _ _ c.in_ok-named.ensures.value) c.keyed_number.ensures.reads_a_number_after_the_key in
     record {
       reads_three_lines_or_tells_the_first_fault =
-          fault_other_wheel c.if-text-gt-TEXT-LIMIT.false c.in-ok-named.named c.in-ok-named.rest.now c.requires.a_wheel_of_a_text (wheel_done _ rest _ _ opened named) (wheel_number named) (λ same. c.if-named-from.true (same ∙ sym c.from.ensures));
+          fault_other_wheel c.if-text-gt-TEXT_LIMIT.false c.in_ok-named.named c.in_ok-named.rest.now c.requires.a_wheel_of_a_text (wheel_done _ rest _ _ opened named) (wheel_number named) (λ same. c.if-named-from.true (same ∙ sym c.from.ensures));
     }
 
-pub returns-in-err-styles : goal.returns-in-err-styles
-returns-in-err-styles c =
-    let p = err_from_is_err_and c.from-residual-in-err-styles.result c.from-residual-in-err-styles.ensures.1 in
-    let none = refused _ _ _ c.in-err-styles.ensures.value in
-    let rest = c.in-ok-rest.rest.now in
-    let opened = MatchOption-at_some _ _ _ (allowed _ _ _ c.in-ok-rest.ensures.value) c.literal.ensures.gives_what_follows_the_key in
-    let named = MatchOption-at_some _ _ _ (allowed _ _ _ c.in-ok-named.ensures.value) c.keyed_number.ensures.reads_a_number_after_the_key in
-    let same : c.in-ok-named.named ≡ c.args.wheel = c.if-named-from.false ∙ c.from.ensures in
+pub returns-in_err-styles : goal.returns-in_err-styles
+returns-in_err-styles c =
+    let p = err_from_is_err_and c.from_residual-in_err-styles.result c.from_residual-in_err-styles.ensures.1 in
+    let none = refused _ _ _ c.in_err-styles.ensures.value in
+    let rest = c.in_ok-rest.rest.now in
+    let opened = MatchOption-at_some _ _ _ (allowed _ _ _ c.in_ok-rest.ensures.value) c.literal.ensures.gives_what_follows_the_key in
+    let named = MatchOption-at_some _ _ _ (allowed _ _ _ c.in_ok-named.ensures.value) c.keyed_number.ensures.reads_a_number_after_the_key in
+    let same : c.in_ok-named.named ≡ c.args.wheel = c.if-named-from.false ∙ c.from.ensures in
     rw (p.1, p.2)
     record {
       reads_three_lines_or_tells_the_first_fault =
-          form_told _ _ _ 3 (none.1 ∙ c.form-3.ensures.is_a_fault_of_form) (fault_styles_line c.if-text-gt-TEXT-LIMIT.false c.in-ok-named.rest.now c.requires.a_wheel_of_a_text (subst (λ w. Done c.args.text.now (_ ∷ wheel_line w ∷ []) c.in-ok-named.rest.now) same (wheel_done _ rest _ _ opened named)) (no_styles_line (MatchOption-at_none _ _ none.0 c.keyed-number-2.ensures.reads_a_number_after_the_key)));
+          form_told _ _ _ 3 (none.1 ∙ c.form-3.ensures.is_a_fault_of_form) (fault_styles_line c.if-text-gt-TEXT_LIMIT.false c.in_ok-named.rest.now c.requires.a_wheel_of_a_text (subst (λ w. Done c.args.text.now (_ ∷ wheel_line w ∷ []) c.in_ok-named.rest.now) same (wheel_done _ rest _ _ opened named)) (no_styles_line (MatchOption-at_none _ _ none.0 c.keyed_number-2.ensures.reads_a_number_after_the_key)));
     }
 
 pub returns : goal.returns
 returns c =
-    let rest = c.in-ok-rest.rest.now in
-    let opened = MatchOption-at_some _ _ _ (allowed _ _ _ c.in-ok-rest.ensures.value) c.literal.ensures.gives_what_follows_the_key in
-    let named = MatchOption-at_some _ _ _ (allowed _ _ _ c.in-ok-named.ensures.value) c.keyed_number.ensures.reads_a_number_after_the_key in
-    let counted = MatchOption-at_some _ _ _ (allowed _ _ _ c.in-ok-styles.ensures.value) c.keyed-number-2.ensures.reads_a_number_after_the_key in
+    let rest = c.in_ok-rest.rest.now in
+    let opened = MatchOption-at_some _ _ _ (allowed _ _ _ c.in_ok-rest.ensures.value) c.literal.ensures.gives_what_follows_the_key in
+    let named = MatchOption-at_some _ _ _ (allowed _ _ _ c.in_ok-named.ensures.value) c.keyed_number.ensures.reads_a_number_after_the_key in
+    let counted = MatchOption-at_some _ _ _ (allowed _ _ _ c.in_ok-styles.ensures.value) c.keyed_number-2.ensures.reads_a_number_after_the_key in
     let lines = three_lines _ _ _ _ _ _ _ _ opened named counted (c.if-named-from.false ∙ c.from.ensures) c.from-2.ensures in
-    record { reads_three_lines_or_tells_the_first_fault = (lines.0, c.if-text-gt-TEXT-LIMIT.false, lines.1) }
+    record { reads_three_lines_or_tells_the_first_fault = (lines.0, c.if-text-gt-TEXT_LIMIT.false, lines.1) }

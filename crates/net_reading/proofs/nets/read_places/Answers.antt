@@ -12,34 +12,34 @@ use Rattle.net_reading.proofs.nets.read_places.Goals as goal
 lawful : (g : given.Over) → Lawful g.W.Wheel
 lawful g = let laws = g.met.W.Wheel in record { from_two = laws.at_least_two; to_nine = laws.at_most_nine; below = laws.numbers_are_below_the_order }
 
-pub overflow-add-len-in-loop-place : goal.overflow-add-len-in-loop-place
-overflow-add-len-in-loop-place g c =
+pub overflow_add-len-in-loop-place : goal.overflow_add-len-in-loop-place
+overflow_add-len-in-loop-place g c =
     let good = proper g.W.Wheel (lawful g) c.args.net.now in
     let small : 5 + c.len.result + c.loop-place.place < 1000 = omega (arith, good.few_styles, good.few_places, c.loop-place.invariant.one_cell_each, c.place_line.ensures.as_many_cells_as_before) in
     search rules
 
-pub overflow-cast-len : goal.overflow-cast-len
-overflow-cast-len g c =
+pub overflow_cast-len : goal.overflow_cast-len
+overflow_cast-len g c =
     let good = proper g.W.Wheel (lawful g) c.args.net.now in
     let small : 5 + c.len.result + c.loop-place.place < 1000 = omega (arith, good.few_styles, good.few_places, c.loop-place.invariant.one_cell_each, c.place_line.ensures.as_many_cells_as_before) in
     search rules
 
-pub returns-in-err-start : goal.returns-in-err-start
-returns-in-err-start g c =
-    let p = err_from_is_err_and c.from-residual.result c.from-residual.ensures.1 in
-    let none = refused _ _ _ c.in-err-start.ensures.value in
+pub returns-in_err-start : goal.returns-in_err-start
+returns-in_err-start g c =
+    let p = err_from_is_err_and c.from_residual.result c.from_residual.ensures.1 in
+    let none = refused _ _ _ c.in_err-start.ensures.value in
     rw (p.1, p.2)
     record {
       reads_every_place_or_tells_where_they_break_off =
-          places_break c.loop-place.invariant (proper g.W.Wheel (lawful g) c.loop-place.net) refl c.in-err-start.field-0.0 (omega (arith, c.places-place-end.ensures.counts_the_places))
+          places_break c.loop-place.invariant (proper g.W.Wheel (lawful g) c.loop-place.net) refl c.in_err-start.field-0.0 (omega (arith, c.places-place-end.ensures.counts_the_places))
           (MatchOption-at_none _ _ none.0 c.place_line.ensures.reads_a_places_line)
           (none.1 ∙ ap (λ (n : ℕ). record { line = 5 + n + c.loop-place.place; cause = Form }) (c.len.ensures ∙ c.place_line.ensures.as_many_cells_as_before));
     }
 
 pub loop-place-preserved : goal.loop-place-preserved
 loop-place-preserved g c =
-    let some = allowed _ _ _ c.in-ok-start.ensures.value in
-    let more = place_more c.loop-place.invariant _ c.in-ok-start.after.now (view g.W.Wheel c.put.new.net) (MatchOption-at_some _ _ _ some c.place_line.ensures.reads_a_places_line) (omega (arith, c.places-place-end.ensures.counts_the_places)) c.put.ensures.replaces_the_place in
+    let some = allowed _ _ _ c.in_ok-start.ensures.value in
+    let more = place_more c.loop-place.invariant _ c.in_ok-start.after.now (view g.W.Wheel c.put.new.net) (MatchOption-at_some _ _ _ some c.place_line.ensures.reads_a_places_line) (omega (arith, c.places-place-end.ensures.counts_the_places)) c.put.ensures.replaces_the_place in
     record {
       as_many_styles = more.as_many_styles;
       as_many_places = more.as_many_places;

@@ -6,15 +6,15 @@ use Rattle.texts.specs.NetText.{cell_bytes}
 use Rattle.net_reading.proofs.CellBytes.{cells_more, no_cells}
 use Rattle.net_reading.proofs.places.read_cells.Goals as goal
 
-pub returns-in-err-read : goal.returns-in-err-read
-returns-in-err-read g c =
+pub returns-in_err-read : goal.returns-in_err-read
+returns-in_err-read g c =
     let items = vec_items c.loop-style.cells in
     let style = c.loop-style.style in
     let read = map (cell_of g.W.Wheel) (take style items) in
     let count : length read ≡ style = length-map (take style items) (cell_of g.W.Wheel) ∙ length-take-le style items (omega (arith, c.loop-style.cells.ok.0, c.loop-style.invariant.1)) in
-    rw c.from-residual.ensures
+    rw c.from_residual.ensures
     record {
-      reads_every_cell = no_cells g.W.Wheel.order _ read c.args.bytes.now c.loop-style.rest.now (omega (arith, count)) c.loop-style.invariant.0 c.in-err-read.ensures.reads_a_cell_of_the_wheel;
+      reads_every_cell = no_cells g.W.Wheel.order _ read c.args.bytes.now c.loop-style.rest.now (omega (arith, count)) c.loop-style.invariant.0 c.in_err-read.ensures.reads_a_cell_of_the_wheel;
       as_many_cells_as_before = c.loop-style.invariant.1;
     }
 
@@ -22,12 +22,12 @@ pub loop-style-preserved : goal.loop-style-preserved
 loop-style-preserved g c =
     let items = vec_items c.loop-style.cells in
     let style = c.loop-style.style in
-    let one = c.in-ok-read.read in
+    let one = c.in_ok-read.read in
     let within : style < length items = omega (arith, c.loop-style.cells.ok.0, c.loop-style.invariant.1) in
     let more : map (cell_of g.W.Wheel) (take (style + 1) (set items style one)) ≡ map (cell_of g.W.Wheel) (take style items) ++ (cell_of g.W.Wheel one ∷ []) =
     ap (map (cell_of g.W.Wheel)) (take_more_set items style one within) ∙ map_push (cell_of g.W.Wheel) (take style items) one in (
-      cells_more (map (cell_of g.W.Wheel) (take style items)) (cell_of g.W.Wheel one) c.args.bytes.now c.loop-style.rest.now c.in-ok-read.after.now c.loop-style.invariant.0 c.in-ok-read.ensures.reads_a_cell_of_the_wheel
-          ∙ ap (λ cs. flat_map cell_bytes cs ++ c.in-ok-read.after.now) (sym more),
+      cells_more (map (cell_of g.W.Wheel) (take style items)) (cell_of g.W.Wheel one) c.args.bytes.now c.loop-style.rest.now c.in_ok-read.after.now c.loop-style.invariant.0 c.in_ok-read.ensures.reads_a_cell_of_the_wheel
+          ∙ ap (λ cs. flat_map cell_bytes cs ++ c.in_ok-read.after.now) (sym more),
       c.loop-style.invariant.1,
     )
 

@@ -18,81 +18,81 @@ use Rattle.net_reading.proofs.reading.parsed.Goals as goal
 lawful : (g : given.Over) → Lawful g.W.Wheel
 lawful g = let laws = g.met.W.Wheel in record { from_two = laws.at_least_two; to_nine = laws.at_most_nine; below = laws.numbers_are_below_the_order }
 
-pub returns-in-err-rest : goal.returns-in-err-rest
-returns-in-err-rest g c =
-    let p = err_from_is_err_and c.from-residual-in-err-rest.result c.from-residual-in-err-rest.ensures.1 in
-    let three = three_read g.W.Wheel (lawful g) c.positions.result c.in-ok-styles.styles c.args.text.now c.in-ok-styles.rest.now c.positions.ensures.is_the_order c.in-ok-styles.ensures.reads_three_lines_or_tells_the_first_fault in
+pub returns-in_err-rest : goal.returns-in_err-rest
+returns-in_err-rest g c =
+    let p = err_from_is_err_and c.from_residual-in_err-rest.result c.from_residual-in_err-rest.ensures.1 in
+    let three = three_read g.W.Wheel (lawful g) c.positions.result c.in_ok-styles.styles c.args.text.now c.in_ok-styles.rest.now c.positions.ensures.is_the_order c.in_ok-styles.ensures.reads_three_lines_or_tells_the_first_fault in
     rw (p.1, p.2)
     record {
-      reads_the_net_or_tells_the_first_fault = names_fault three c.in-err-rest.field-0.0 c.in-err-rest.ensures.reads_every_name_or_tells_where_they_break_off;
+      reads_the_net_or_tells_the_first_fault = names_fault three c.in_err-rest.field-0.0 c.in_err-rest.ensures.reads_every_name_or_tells_where_they_break_off;
     }
 
-pub returns-in-err-places : goal.returns-in-err-places
-returns-in-err-places g c =
-    let p = err_from_is_err_and c.from-residual-in-err-places.result c.from-residual-in-err-places.ensures.1 in
-    let none = refused _ _ _ c.in-err-places.ensures.value in
-    let three = three_read g.W.Wheel (lawful g) c.positions.result c.in-ok-styles.styles c.args.text.now c.in-ok-styles.rest.now c.positions.ensures.is_the_order c.in-ok-styles.ensures.reads_three_lines_or_tells_the_first_fault in
-    let names = c.in-ok-rest.ensures.reads_every_name_or_tells_where_they_break_off in
-    rw (p.1, p.2)
-    record {
-      reads_the_net_or_tells_the_first_fault =
-          places_line_fault three (names_formed c.read_names.new.sheet) names.0 names.1 c.in-err-places.field-0.0 (none.1 ∙ c.form.ensures.is_a_fault_of_form) (MatchOption-at_none _ _ none.0 c.keyed_number.ensures.reads_a_number_after_the_key);
-    }
-
-pub returns-in-err-rest-2 : goal.returns-in-err-rest-2
-returns-in-err-rest-2 g c =
-    let w = g.W.Wheel in
-    let p = err_from_is_err_and c.from-residual-in-err-rest-2.result c.from-residual-in-err-rest-2.ensures.1 in
-    let three = three_read w (lawful g) c.positions.result c.in-ok-styles.styles c.args.text.now c.in-ok-styles.rest.now c.positions.ensures.is_the_order c.in-ok-styles.ensures.reads_three_lines_or_tells_the_first_fault in
-    let names = c.in-ok-rest.ensures.reads_every_name_or_tells_where_they_break_off in
-    let counted = MatchOption-at_some _ _ _ (allowed _ _ _ c.in-ok-places.ensures.value) c.keyed_number.ensures.reads_a_number_after_the_key in
-    let idle = c.in-ok-net.ensures.made_idle_or_out_of_memory in
-    let styles = idle_styles w c.in-ok-net.net _ _ idle in
-    let places = idle_places w c.in-ok-net.net _ _ _ idle c.from.ensures in
+pub returns-in_err-places : goal.returns-in_err-places
+returns-in_err-places g c =
+    let p = err_from_is_err_and c.from_residual-in_err-places.result c.from_residual-in_err-places.ensures.1 in
+    let none = refused _ _ _ c.in_err-places.ensures.value in
+    let three = three_read g.W.Wheel (lawful g) c.positions.result c.in_ok-styles.styles c.args.text.now c.in_ok-styles.rest.now c.positions.ensures.is_the_order c.in_ok-styles.ensures.reads_three_lines_or_tells_the_first_fault in
+    let names = c.in_ok-rest.ensures.reads_every_name_or_tells_where_they_break_off in
     rw (p.1, p.2)
     record {
       reads_the_net_or_tells_the_first_fault =
-          places_fault three (names_formed c.read_names.new.sheet) names.0 names.1 counted c.in-err-rest-2.field-0.0
-          (subst (λ q. PlacesBreak w.order c.in-ok-styles.styles q c.in-ok-places.rest.now c.in-err-rest-2.field-0.0) places
-          (subst (λ n. PlacesBreak w.order n (length (view w c.in-ok-net.net).places) c.in-ok-places.rest.now c.in-err-rest-2.field-0.0) styles
-          c.in-err-rest-2.ensures.reads_every_place_or_tells_where_they_break_off));
+          places_line_fault three (names_formed c.read_names.new.sheet) names.0 names.1 c.in_err-places.field-0.0 (none.1 ∙ c.form.ensures.is_a_fault_of_form) (MatchOption-at_none _ _ none.0 c.keyed_number.ensures.reads_a_number_after_the_key);
     }
 
-pub returns-in-err-read-end : goal.returns-in-err-read-end
-returns-in-err-read-end g c =
+pub returns-in_err-rest-2 : goal.returns-in_err-rest-2
+returns-in_err-rest-2 g c =
     let w = g.W.Wheel in
-    let p = err_from_is_err_and c.from-residual-in-err-read-end.result c.from-residual-in-err-read-end.ensures.1 in
-    let three = three_read w (lawful g) c.positions.result c.in-ok-styles.styles c.args.text.now c.in-ok-styles.rest.now c.positions.ensures.is_the_order c.in-ok-styles.ensures.reads_three_lines_or_tells_the_first_fault in
-    let names = c.in-ok-rest.ensures.reads_every_name_or_tells_where_they_break_off in
-    let counted = MatchOption-at_some _ _ _ (allowed _ _ _ c.in-ok-places.ensures.value) c.keyed_number.ensures.reads_a_number_after_the_key in
-    let idle = c.in-ok-net.ensures.made_idle_or_out_of_memory in
-    let styles = idle_styles w c.in-ok-net.net _ _ idle in
-    let places = idle_places w c.in-ok-net.net _ _ _ idle c.from.ensures in
-    let read = c.in-ok-rest-2.ensures.reads_every_place_or_tells_where_they_break_off in
-    let end_line : 4 + c.in-ok-styles.styles + 1 + c.from-2.result ≡ 5 + c.in-ok-styles.styles + c.in-ok-places.places = omega (arith, c.from-2.ensures) in
+    let p = err_from_is_err_and c.from_residual-in_err-rest-2.result c.from_residual-in_err-rest-2.ensures.1 in
+    let three = three_read w (lawful g) c.positions.result c.in_ok-styles.styles c.args.text.now c.in_ok-styles.rest.now c.positions.ensures.is_the_order c.in_ok-styles.ensures.reads_three_lines_or_tells_the_first_fault in
+    let names = c.in_ok-rest.ensures.reads_every_name_or_tells_where_they_break_off in
+    let counted = MatchOption-at_some _ _ _ (allowed _ _ _ c.in_ok-places.ensures.value) c.keyed_number.ensures.reads_a_number_after_the_key in
+    let idle = c.in_ok-net.ensures.made_idle_or_out_of_memory in
+    let styles = idle_styles w c.in_ok-net.net _ _ idle in
+    let places = idle_places w c.in_ok-net.net _ _ _ idle c.from.ensures in
+    rw (p.1, p.2)
+    record {
+      reads_the_net_or_tells_the_first_fault =
+          places_fault three (names_formed c.read_names.new.sheet) names.0 names.1 counted c.in_err-rest-2.field-0.0
+          (subst (λ q. PlacesBreak w.order c.in_ok-styles.styles q c.in_ok-places.rest.now c.in_err-rest-2.field-0.0) places
+          (subst (λ n. PlacesBreak w.order n (length (view w c.in_ok-net.net).places) c.in_ok-places.rest.now c.in_err-rest-2.field-0.0) styles
+          c.in_err-rest-2.ensures.reads_every_place_or_tells_where_they_break_off));
+    }
+
+pub returns-in_err-read_end : goal.returns-in_err-read_end
+returns-in_err-read_end g c =
+    let w = g.W.Wheel in
+    let p = err_from_is_err_and c.from_residual-in_err-read_end.result c.from_residual-in_err-read_end.ensures.1 in
+    let three = three_read w (lawful g) c.positions.result c.in_ok-styles.styles c.args.text.now c.in_ok-styles.rest.now c.positions.ensures.is_the_order c.in_ok-styles.ensures.reads_three_lines_or_tells_the_first_fault in
+    let names = c.in_ok-rest.ensures.reads_every_name_or_tells_where_they_break_off in
+    let counted = MatchOption-at_some _ _ _ (allowed _ _ _ c.in_ok-places.ensures.value) c.keyed_number.ensures.reads_a_number_after_the_key in
+    let idle = c.in_ok-net.ensures.made_idle_or_out_of_memory in
+    let styles = idle_styles w c.in_ok-net.net _ _ idle in
+    let places = idle_places w c.in_ok-net.net _ _ _ idle c.from.ensures in
+    let read = c.in_ok-rest-2.ensures.reads_every_place_or_tells_where_they_break_off in
+    let end_line : 4 + c.in_ok-styles.styles + 1 + c.from-2.result ≡ 5 + c.in_ok-styles.styles + c.in_ok-places.places = omega (arith, c.from-2.ensures) in
     rw (p.1, p.2)
     record {
       reads_the_net_or_tells_the_first_fault =
           end_fault three (names_formed c.read_names.new.sheet) names.0 names.1 counted
-          (subst (λ n. PlacesOpen w.order n c.in-ok-places.rest.now (view w c.read_places.new.net).places c.in-ok-rest-2.rest.now) styles read.2)
+          (subst (λ n. PlacesOpen w.order n c.in_ok-places.rest.now (view w c.read_places.new.net).places c.in_ok-rest-2.rest.now) styles read.2)
           (read.1 ∙ places)
-          c.in-err-read-end.field-0.0
-          (subst (λ l. NoEnd l c.in-ok-rest-2.rest.now c.in-err-read-end.field-0.0) end_line c.in-err-read-end.ensures.at_the_end_or_faulty);
+          c.in_err-read_end.field-0.0
+          (subst (λ l. NoEnd l c.in_ok-rest-2.rest.now c.in_err-read_end.field-0.0) end_line c.in_err-read_end.ensures.at_the_end_or_faulty);
     }
 
 pub returns : goal.returns
 returns g c =
     let w = g.W.Wheel in
-    let three = three_read w (lawful g) c.positions.result c.in-ok-styles.styles c.args.text.now c.in-ok-styles.rest.now c.positions.ensures.is_the_order c.in-ok-styles.ensures.reads_three_lines_or_tells_the_first_fault in
-    let names = c.in-ok-rest.ensures.reads_every_name_or_tells_where_they_break_off in
-    let counted = MatchOption-at_some _ _ _ (allowed _ _ _ c.in-ok-places.ensures.value) c.keyed_number.ensures.reads_a_number_after_the_key in
-    let idle = c.in-ok-net.ensures.made_idle_or_out_of_memory in
-    let styles = idle_styles w c.in-ok-net.net _ _ idle in
-    let places = idle_places w c.in-ok-net.net _ _ _ idle c.from.ensures in
-    let read = c.in-ok-rest-2.ensures.reads_every_place_or_tells_where_they_break_off in
+    let three = three_read w (lawful g) c.positions.result c.in_ok-styles.styles c.args.text.now c.in_ok-styles.rest.now c.positions.ensures.is_the_order c.in_ok-styles.ensures.reads_three_lines_or_tells_the_first_fault in
+    let names = c.in_ok-rest.ensures.reads_every_name_or_tells_where_they_break_off in
+    let counted = MatchOption-at_some _ _ _ (allowed _ _ _ c.in_ok-places.ensures.value) c.keyed_number.ensures.reads_a_number_after_the_key in
+    let idle = c.in_ok-net.ensures.made_idle_or_out_of_memory in
+    let styles = idle_styles w c.in_ok-net.net _ _ idle in
+    let places = idle_places w c.in_ok-net.net _ _ _ idle c.from.ensures in
+    let read = c.in_ok-rest-2.ensures.reads_every_place_or_tells_where_they_break_off in
     let whole = whole_text three (names_formed c.read_names.new.sheet) names.0 names.1 counted
-    (subst (λ n. PlacesOpen w.order n c.in-ok-places.rest.now (view w c.read_places.new.net).places c.in-ok-rest-2.rest.now) styles read.2)
-    (read.1 ∙ places) c.in-ok-read-end.ensures.at_the_end_or_faulty in
+    (subst (λ n. PlacesOpen w.order n c.in_ok-places.rest.now (view w c.read_places.new.net).places c.in_ok-rest-2.rest.now) styles read.2)
+    (read.1 ∙ places) c.in_ok-read_end.ensures.at_the_end_or_faulty in
     record {
       reads_the_net_or_tells_the_first_fault = (
         names.0 ∙ sym (read.0 ∙ styles),

@@ -13,24 +13,24 @@ use Rattle.net_text.proofs.copying.write_then_read.Goals as goal
 lawful : (g : given.Over) → Lawful g.W.Wheel
 lawful g = let laws = g.met.W.Wheel in record { from_two = laws.at_least_two; to_nine = laws.at_most_nine; below = laws.numbers_are_below_the_order }
 
-pub returns-in-err-read : goal.returns-in-err-read
-returns-in-err-read g c =
-    let p = err_from_is_err_and c.from-residual-in-err-read.result c.from-residual-in-err-read.ensures.1 in
-    let written = c.in-ok-len.ensures.writes_the_text_or_refuses in
+pub returns-in_err-read : goal.returns-in_err-read
+returns-in_err-read g c =
+    let p = err_from_is_err_and c.from_residual-in_err-read.result c.from_residual-in_err-read.ensures.1 in
+    let written = c.in_ok-len.ensures.writes_the_text_or_refuses in
     let text = net_text (view g.W.Wheel c.args.net.now) (names_of c.args.sheet.now) in
-    let is = front c.write.new.buffer text c.args.buffer.now c.in-ok-len.len written.1 written.3 in
+    let is = front c.write.new.buffer text c.args.buffer.now c.in_ok-len.len written.1 written.3 in
     rw (p.1, p.2)
     record {
-      refused_calls_change_no_net = λ _. c.read.ensures.refused_calls_change_no_net (ap is_err c.in-err-read.was);
-      refused_calls_change_no_sheet = λ _. c.read.ensures.refused_calls_change_no_sheet (ap is_err c.in-err-read.was);
-      reading_a_written_net_restores_it = (subst (λ l. WriteOwes (view g.W.Wheel c.args.net.now) (names_of c.args.sheet.now) c.args.buffer.now c.write.new.buffer (Ok l)) written.1 written, out_of_memory g.W.Wheel.order _ c.in-err-read.field-0.0 (is_net_text g.W.Wheel (lawful g) c.args.net.now c.args.sheet.now _ written.0 is) c.in-err-read.ensures.refused_exactly_where_it_is_no_net_text);
+      refused_calls_change_no_net = λ _. c.read.ensures.refused_calls_change_no_net (ap is_err c.in_err-read.was);
+      refused_calls_change_no_sheet = λ _. c.read.ensures.refused_calls_change_no_sheet (ap is_err c.in_err-read.was);
+      reading_a_written_net_restores_it = (subst (λ l. WriteOwes (view g.W.Wheel c.args.net.now) (names_of c.args.sheet.now) c.args.buffer.now c.write.new.buffer (Ok l)) written.1 written, out_of_memory g.W.Wheel.order _ c.in_err-read.field-0.0 (is_net_text g.W.Wheel (lawful g) c.args.net.now c.args.sheet.now _ written.0 is) c.in_err-read.ensures.refused_exactly_where_it_is_no_net_text);
     }
 
 pub returns : goal.returns
 returns g c =
-    let written = c.in-ok-len.ensures.writes_the_text_or_refuses in
+    let written = c.in_ok-len.ensures.writes_the_text_or_refuses in
     let text = net_text (view g.W.Wheel c.args.net.now) (names_of c.args.sheet.now) in
-    let is = front c.write.new.buffer text c.args.buffer.now c.in-ok-len.len written.1 written.3 in
-    let read = c.in-ok-read.ensures.the_net_read_has_that_text in
+    let is = front c.write.new.buffer text c.args.buffer.now c.in_ok-len.len written.1 written.3 in
+    let read = c.in_ok-read.ensures.the_net_read_has_that_text in
     let same = same_net g.W.Wheel (lawful g) c.args.net.now c.read.new.net c.args.sheet.now c.read.new.sheet written.0 read.0 (sym read.1 ∙ is) in
     record { reading_a_written_net_restores_it = (written, same.0, same.1); refused_calls_change_no_net = λ e. absurd (false≢true e); refused_calls_change_no_sheet = λ e. absurd (false≢true e) }

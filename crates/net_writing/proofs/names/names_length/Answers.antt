@@ -9,8 +9,8 @@ use Rattle.net_writing.proofs.Blocks.{name_line_length, name_lines_short}
 use Rattle.net_writing.proofs.Joins.{joined_next_le, joined_take_more}
 use Rattle.net_writing.proofs.names.names_length.Goals as goal
 
-pub overflow-add-bytes-in-Some-2 : goal.overflow-add-bytes-in-Some-2
-overflow-add-bytes-in-Some-2 c =
+pub overflow_add-bytes-in-Some-2 : goal.overflow_add-bytes-in-Some-2
+overflow_add-bytes-in-Some-2 c =
     let names = names_of c.args.sheet.now in
     let found = c.in-Some.ensures.is_the_name_of_the_style in
     omega (
@@ -22,8 +22,8 @@ overflow-add-bytes-in-Some-2 c =
       name_lines_short names (names_formed c.args.sheet.now).formed (names_few c.args.sheet.now),
     )
 
-pub overflow-add-style : goal.overflow-add-style
-overflow-add-style c = omega (arith, c.in-Some.ensures.is_the_name_of_the_style.0, names_few c.args.sheet.now)
+pub overflow_add-style : goal.overflow_add-style
+overflow_add-style c = omega (arith, c.in-Some.ensures.is_the_name_of_the_style.0, names_few c.args.sheet.now)
 
 pub loop-name-preserved : goal.loop-name-preserved
 loop-name-preserved c =
@@ -39,5 +39,5 @@ pub returns : goal.returns
 returns c =
     let names = names_of c.args.sheet.now in
     record {
-      counts_the_bytes = c.loop-name.invariant.1 ∙ ap (λ ns. length (name_lines ns)) (take_all c.loop-name.style names c.in-default.ensures.is_the_name_of_the_style);
+      counts_the_bytes = c.loop-name.invariant.1 ∙ ap (λ ns. length (name_lines ns)) (take_all c.loop-name.style names c.in_default.ensures.is_the_name_of_the_style);
     }

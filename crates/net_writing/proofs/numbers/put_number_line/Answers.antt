@@ -8,8 +8,8 @@ put-at-requires c = record {
   room = omega (arith, length_push (c.args.key.now ++ decimal c.args.n) 10, length-append c.args.key.now (decimal c.args.n));
 }
 
-pub put-number-at-requires : goal.put-number-at-requires
-put-number-at-requires c = record {
+pub put_number-at-requires : goal.put_number-at-requires
+put_number-at-requires c = record {
   room = omega (arith, length_push (c.args.key.now ++ decimal c.args.n) 10, length-append c.args.key.now (decimal c.args.n));
 }
 
@@ -21,5 +21,5 @@ put-requires c = record {
 pub returns : goal.returns
 returns c = record {
   puts_the_line =
-      puts_then _ _ _ _ _ _ _ _ (puts_then _ _ _ _ _ _ _ _ c.put-at.ensures.puts_the_bytes c.put-number-at.ensures.puts_the_digits) c.put.ensures.puts_the_bytes;
+      puts_then _ _ _ _ _ _ _ _ (puts_then _ _ _ _ _ _ _ _ c.put-at.ensures.puts_the_bytes c.put_number-at.ensures.puts_the_digits) c.put.ensures.puts_the_bytes;
 }

@@ -15,8 +15,8 @@ lawful g = let laws = g.met.W.Wheel in record { from_two = laws.at_least_two; to
 pub loop-cell-init : goal.loop-cell-init
 loop-cell-init g c = (omega arith, puts_none _ _ (omega arith))
 
-pub put-cell-end-requires : goal.put-cell-end-requires
-put-cell-end-requires g c =
+pub put_cell-end-requires : goal.put_cell-end-requires
+put_cell-end-requires g c =
     let w = g.W.Wheel in
     let net = c.args.net.now in
     let cells = (place-number (view w net) c.args.place).cells in
@@ -35,7 +35,7 @@ loop-cell-preserved g c =
     let within : c.loop-cell.style < length cells = omega (arith, found.1, ((proper w (lawful g) net).each_place c.args.place c.requires.there_is_such_a_place).one_cell_each) in (
       omega (arith, found.1),
       puts_more cell_bytes cells c.args.buffer.now c.args.at c.loop-cell.style idle _ _ _ _ within c.loop-cell.invariant.1
-          (puts_same _ _ _ _ _ _ (ap cell_bytes found.2) c.put-cell-end.ensures.puts_the_cell),
+          (puts_same _ _ _ _ _ _ (ap cell_bytes found.2) c.put_cell-end.ensures.puts_the_cell),
     )
 
 pub returns : goal.returns
@@ -44,5 +44,5 @@ returns g c =
     let net = c.args.net.now in
     let cells = (place-number (view w net) c.args.place).cells in
     let count = ((proper w (lawful g) net).each_place c.args.place c.requires.there_is_such_a_place).one_cell_each in
-    let past : length cells ≤ c.loop-cell.style = ⊎_elim (λ h. absurd (c.in-default.ensures.is_the_cell (c.requires.there_is_such_a_place, h))) (λ h. omega (arith, count)) (cases_lt c.loop-cell.style (view w net).styles) in
+    let past : length cells ≤ c.loop-cell.style = ⊎_elim (λ h. absurd (c.in_default.ensures.is_the_cell (c.requires.there_is_such_a_place, h))) (λ h. omega (arith, count)) (cases_lt c.loop-cell.style (view w net).styles) in
     record { puts_the_cells = puts_all cell_bytes cells _ _ c.loop-cell.style _ _ past c.loop-cell.invariant.1 }

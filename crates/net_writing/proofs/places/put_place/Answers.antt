@@ -14,8 +14,8 @@ put-at-requires g c = record { room = omega (arith, place_line_length (place-num
 pub put-at-requires-2 : goal.put-at-requires-2
 put-at-requires-2 g c = record { room = omega (arith, place_line_length (place-number (view g.W.Wheel c.args.net.now) c.args.place)) }
 
-pub put-cells-at-requires : goal.put-cells-at-requires
-put-cells-at-requires g c = record {
+pub put_cells-at-requires : goal.put_cells-at-requires
+put_cells-at-requires g c = record {
   there_is_such_a_place = c.requires.there_is_such_a_place;
   room = omega (arith, place_line_length (place-number (view g.W.Wheel c.args.net.now) c.args.place));
 }
@@ -27,7 +27,7 @@ pub returns : goal.returns
 returns g c =
     let place = place-number (view g.W.Wheel c.args.net.now) c.args.place in
     let front = puts_then _ _ _ _ _ _ _ _ c.put-at.ensures.puts_the_bytes c.put-at-2.ensures.puts_the_bytes in
-    let line = puts_then _ _ _ _ _ _ _ _ front c.put-cells-at.ensures.puts_the_cells in
+    let line = puts_then _ _ _ _ _ _ _ _ front c.put_cells-at.ensures.puts_the_cells in
     record {
       puts_the_line =
           puts_same _ _ _ _ _ _

@@ -14,8 +14,8 @@ lawful g = let laws = g.met.W.Wheel in record { from_two = laws.at_least_two; to
 pub loop-start-init : goal.loop-start-init
 loop-start-init g c = (omega arith, puts_none _ _ (omega arith))
 
-pub put-place-end-requires : goal.put-place-end-requires
-put-place-end-requires g c =
+pub put_place-end-requires : goal.put_place-end-requires
+put_place-end-requires g c =
     let found = c.in-Some.ensures.is_the_start_value in
     record {
       there_is_such_a_place = found.0;
@@ -23,17 +23,17 @@ put-place-end-requires g c =
       room = room_next (λ place. ended (place_line place)) (view g.W.Wheel c.args.net.now).places c.args.buffer.now c.args.at c.loop-start.place (record { start = 0; cells = [] }) _ _ found.0 c.requires.room c.loop-start.invariant.1;
     }
 
-pub overflow-add-place : goal.overflow-add-place
-overflow-add-place g c = omega (arith, c.in-Some.ensures.is_the_start_value.0, (proper g.W.Wheel (lawful g) c.args.net.now).few_places)
+pub overflow_add-place : goal.overflow_add-place
+overflow_add-place g c = omega (arith, c.in-Some.ensures.is_the_start_value.0, (proper g.W.Wheel (lawful g) c.args.net.now).few_places)
 
 pub loop-start-preserved : goal.loop-start-preserved
 loop-start-preserved g c =
     let found = c.in-Some.ensures.is_the_start_value in (
       omega (arith, found.0),
-      puts_more (λ place. ended (place_line place)) (view g.W.Wheel c.args.net.now).places c.args.buffer.now c.args.at c.loop-start.place (record { start = 0; cells = [] }) _ _ _ _ found.0 c.loop-start.invariant.1 c.put-place-end.ensures.puts_the_line,
+      puts_more (λ place. ended (place_line place)) (view g.W.Wheel c.args.net.now).places c.args.buffer.now c.args.at c.loop-start.place (record { start = 0; cells = [] }) _ _ _ _ found.0 c.loop-start.invariant.1 c.put_place-end.ensures.puts_the_line,
     )
 
 pub returns : goal.returns
 returns g c = record {
-  puts_the_lines = puts_all (λ place. ended (place_line place)) (view g.W.Wheel c.args.net.now).places _ _ c.loop-start.place _ _ c.in-default.ensures.is_the_start_value c.loop-start.invariant.1;
+  puts_the_lines = puts_all (λ place. ended (place_line place)) (view g.W.Wheel c.args.net.now).places _ _ c.loop-start.place _ _ c.in_default.ensures.is_the_start_value c.loop-start.invariant.1;
 }

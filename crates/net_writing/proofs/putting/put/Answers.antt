@@ -13,7 +13,7 @@ returns c =
         room = c.requires.room;
         ends = refl;
         holds =
-            put_mid-paste at _ buffer c.copy-from-slice.new.self bytes (length bytes) c.copy-from-slice.ensures.after (omega arith) refl
+            put_mid-paste at _ buffer c.copy_from_slice.new.self bytes (length bytes) c.copy_from_slice.ensures.after (omega arith) refl
             ∙ append_assoc (take at buffer) (take (length bytes) bytes) (drop (at + length bytes) buffer)
             ∙ ap (λ bs. take at buffer ++ (bs ++ drop (at + length bytes) buffer)) (take_all (length bytes) bytes (omega arith));
       };

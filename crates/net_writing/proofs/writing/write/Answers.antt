@@ -16,8 +16,8 @@ returns-then-names-styles g c =
 pub returns-then-buffer-needed : goal.returns-then-buffer-needed
 returns-then-buffer-needed g c =
     let before = c.args.buffer.now in
-    let owes : WriteOwes (view g.W.Wheel c.args.net.now) (names_of c.args.sheet.now) before before (Err (BufferTooShort c.text-length-needed.result)) = search rules in
-    record { writes_the_text_or_refuses = owes; answers_by_number_and_values = answered _ _ before before (Err (BufferTooShort c.text-length-needed.result)) owes; refused_calls_change_nothing = λ _. refl }
+    let owes : WriteOwes (view g.W.Wheel c.args.net.now) (names_of c.args.sheet.now) before before (Err (BufferTooShort c.text_length-needed.result)) = search rules in
+    record { writes_the_text_or_refuses = owes; answers_by_number_and_values = answered _ _ before before (Err (BufferTooShort c.text_length-needed.result)) owes; refused_calls_change_nothing = λ _. refl }
 
 pub returns : goal.returns
 returns g c =
