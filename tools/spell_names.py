@@ -22,6 +22,7 @@ SIGNATURE = re.compile(r"^\s*(?:(?:abbrev|pub|unfoldable)\s+)*(" + WORD + r")\s+
 DECLARED = re.compile(r"^\s*(?:(?:abbrev|pub|unfoldable)\s+)*(?:record|data|ruleset)\s+(" + WORD + r")")
 LOCAL = re.compile(r"(?:\blet\s+|λ\s+|\()(" + WORD + r")\s*(?=[:=.])")
 IMPORT = re.compile(r"\buse\s+((?:Rattle\.)?[A-Za-z_]+)[^\s{;]*\.\{([^}]*)\}")
+ALIAS = re.compile(r"\bas\s+(" + WORD + r")")
 TOKEN = re.compile(r"(?<![^\s(){}\[\].,;:=λ→×∷«»\"|])(" + WORD + r")")
 
 
@@ -56,6 +57,7 @@ def main(argv):
     crates = {d for d in os.listdir(os.path.join(root, "crates"))}
     own, foreign, goals = set(), set(), set()
     for path, text in texts.items():
+        own |= set(ALIAS.findall(text))
         for top, names in IMPORT.findall(text):
             if not (top.startswith("Rattle.") and top[len("Rattle."):] in crates):
                 foreign |= {n.split(" as ")[0].strip() for n in names.split(",")}

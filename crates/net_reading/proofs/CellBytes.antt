@@ -1,10 +1,10 @@
 -- The bytes of digits and cells. Assumes nothing.
-use Rattle.std.proofs.Common.{◌≡◌, ℕ, suc, ◌+◌, ◌-◌, ◌<◌, ◌≤◌, List, [], ◌∷◌, ◌++◌, length, get_or, take, drop, Some, None, codes, Option, sym, refl, ap, ◌∙◌, ap₂, arith}
+use Rattle.std.proofs.Common.{◌≡◌, ℕ, ◌+◌, ◌-◌, ◌<◌, ◌≤◌, List, [], ◌∷◌, ◌++◌, length, get_or, take, drop, Some, None, codes, sym, refl, ap, ◌∙◌, ap₂, arith}
 use Rattle.std.proofs.lemmas.List.{append_assoc, append_cancel_left, drop_all, drop_more, flat_map_more, take_rest}
 use Rattle.std.specs.List.{flat_map}
 use Rattle.theory.specs.Places as P
 use Rattle.texts.specs.Lines.{line_feed}
-use Rattle.texts.specs.NetText.{digit, wanted_byte, cell_bytes, place_line}
+use Rattle.texts.specs.NetText.{digit, cell_bytes, place_line}
 use Rattle.net_reading.specs.Opening.{NoDigit, NoWanted, NoCell, NoCells, NoPlace}
 
 -- a byte that is no digit and no full stop is nothing wanted

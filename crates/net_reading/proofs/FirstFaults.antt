@@ -1,5 +1,5 @@
 -- What the code's faults and numbers say of the text. Assumes nothing.
-use Rattle.std.proofs.Common.{◌≡◌, ℕ, suc, ◌<◌, ◌≤◌, List, [], ◌∷◌, ◌++◌, length, codes, sym, refl, ◌∙◌, subst, ap₂, arith}
+use Rattle.std.proofs.Common.{◌≡◌, ℕ, List, [], ◌∷◌, ◌++◌, codes, sym, refl, ◌∙◌, subst, ap₂, arith}
 use Rattle.lines.specs.Numbers.{at_line}
 use Rattle.lines.specs.Opening.{NumberLine}
 use Rattle.lines.specs.declared.faults.Cause.TheVariants.{Form}

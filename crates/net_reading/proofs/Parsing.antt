@@ -1,10 +1,9 @@
 -- What the parts of a net text that have been read say of the whole. Assumes nothing.
-use Rattle.std.proofs.Common.{◌≡◌, ℕ, suc, ◌+◌, ◌<◌, ◌≤◌, List, [], ◌∷◌, ◌++◌, map, length, codes, sym, refl, ap, ◌∙◌, subst, ap₂, arith}
+use Rattle.std.proofs.Common.{◌≡◌, ℕ, suc, ◌+◌, ◌<◌, ◌≤◌, List, [], ◌∷◌, ◌++◌, map, length, codes, sym, refl, subst, ap₂, arith}
 use Rattle.theory.specs.Limits.{place_limit}
-use Rattle.theory.specs.Nets as N
 use Rattle.theory.specs.Places as P
 use Rattle.lines.specs.Numbers.{at_line}
-use Rattle.lines.specs.Opening.{NumberLine, StyleLine}
+use Rattle.lines.specs.Opening.{NumberLine}
 use Rattle.lines.specs.declared.faults.Cause.{Cause}
 use Rattle.lines.specs.declared.faults.Cause.TheVariants.{Form, Name}
 use Rattle.lines.specs.declared.faults.LineFault.{LineFault}
@@ -14,7 +13,7 @@ use Rattle.texts.specs.Limits.{text_limit}
 use Rattle.texts.specs.Lines.{line_feed, text_of}
 use Rattle.texts.specs.Names.{Sheet}
 use Rattle.texts.specs.NetFaults.{FirstFault}
-use Rattle.texts.specs.NetText.{net_opening, net_end, net_text, places_line}
+use Rattle.texts.specs.NetText.{net_opening, net_end, net_text}
 use Rattle.texts.proofs.Bytes.{free_tested, free_style_lines, free_styles_line, free_wheel_line}
 use Rattle.texts.proofs.Forms.{Done}
 use Rattle.texts.proofs.Heads.{HeadRead, styles_fit, wheel_fits}

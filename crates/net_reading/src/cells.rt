@@ -2,7 +2,7 @@
 ghost use Rattle.net.specs.Views.{cell_of};
 ghost use Rattle.net_reading.specs.Opening.{NoDigit, NoWanted, NoCell};
 ghost use Rattle.std.specs.Option.{option_map};
-ghost use Rattle.texts.specs.NetText.{digit as digit-byte, wanted_byte, cell_bytes};
+ghost use Rattle.texts.specs.NetText.{digit as digit_byte, wanted_byte, cell_bytes};
 ghost use Rattle.std.specs.Prelude.{◌≡◌, ◌++◌, MatchOption};
 
 use net::cells::Cell;
@@ -10,7 +10,7 @@ use wheel::turning::Wheel;
 
 // The position of a digit below k.
 pub(crate) fn digit<W: Wheel>(byte: u8) -> Option<W>
-    ensures reads_a_digit_of_the_wheel { MatchOption result (NoDigit W.Wheel.order byte) (λ x. byte ≡ digit-byte (W.Wheel.number x)) }
+    ensures reads_a_digit_of_the_wheel { MatchOption result (NoDigit W.Wheel.order byte) (λ x. byte ≡ digit_byte (W.Wheel.number x)) }
 {
     if byte < b'0' {
         return None;

@@ -1,4 +1,6 @@
 // Reading net texts.
+#![tactic(auto)]
+
 mod cells;
 mod heads;
 mod names;

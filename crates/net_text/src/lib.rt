@@ -1,3 +1,5 @@
 // Net texts there and back.
+#![tactic(auto)]
+
 pub mod copying;
 pub mod refusals;

@@ -1,8 +1,7 @@
 -- What Write owes, told by numbers. Assumes nothing.
-use Rattle.std.proofs.Common.{◌≡◌, ℕ, ◌<◌, ◌≤◌, List, [], ◌∷◌, length, Ok, Err, Result, sym, ap, subst, ap₂}
+use Rattle.std.proofs.Common.{ℕ, ◌<◌, ◌≤◌, List, [], ◌∷◌, length, Ok, Err, Result, sym, subst, ap₂}
 use Rattle.theory.specs.Nets.{Net}
 use Rattle.theory.specs.Outcomes.{done, refused}
-use Rattle.texts.specs.NetText.{net_text}
 use Rattle.net_writing.specs.Refusals.{Answers, counts_differ, too_short, written, write_outcome}
 use Rattle.net_writing.specs.Writing.{WriteOwes}
 use Rattle.net_writing.specs.declared.refusals.WriteRefusal.{WriteRefusal}

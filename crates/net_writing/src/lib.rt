@@ -1,4 +1,6 @@
 // Write: the text of a net and the names of its styles.
+#![tactic(auto)]
+
 mod names;
 mod numbers;
 mod places;

@@ -5,8 +5,8 @@ ghost use Rattle.net_writing.specs.Blocks.{place_lines};
 ghost use Rattle.net_writing.specs.Putting.{Puts};
 ghost use Rattle.std.specs.List.{flat_map};
 ghost use Rattle.texts.specs.Lines.{ended};
-ghost use Rattle.texts.specs.NetText.{cell_bytes, digit as digit-of, place_line};
-ghost use Rattle.theory.specs.Nets.{place as place-number};
+ghost use Rattle.texts.specs.NetText.{cell_bytes, digit as digit_of, place_line};
+ghost use Rattle.theory.specs.Nets.{place as place_number};
 
 use crate::putting::put;
 use lines::keys::PLACE;
@@ -16,7 +16,7 @@ use wheel::turning::Wheel;
 
 // The digit of a value.
 fn digit_byte<W: Wheel>(value: W) -> u8
-    ensures is_the_digit { result ≡ digit-of (W.Wheel.number value) }
+    ensures is_the_digit { result ≡ digit_of (W.Wheel.number value) }
 {
     b'0' + value.digit()
 }
@@ -43,8 +43,8 @@ fn put_cell<W: Wheel>(buffer: &mut [u8], at: usize, cell: Cell<W>) -> usize
 // Puts the cells of a place.
 fn put_cells<W: Wheel>(buffer: &mut [u8], at: usize, net: &Net<W>, place: usize) -> usize
     requires there_is_such_a_place { place < length (view W.Wheel net.now).places }
-    requires room { at + length (flat_map cell_bytes (place-number (view W.Wheel net.now) place).cells) ≤ length buffer.old }
-    ensures puts_the_cells { Puts buffer.old at (flat_map cell_bytes (place-number (view W.Wheel net.now) place).cells) buffer.new result }
+    requires room { at + length (flat_map cell_bytes (place_number (view W.Wheel net.now) place).cells) ≤ length buffer.old }
+    ensures puts_the_cells { Puts buffer.old at (flat_map cell_bytes (place_number (view W.Wheel net.now) place).cells) buffer.new result }
 {
     let mut end = at;
     let mut style = 0;
@@ -58,9 +58,9 @@ fn put_cells<W: Wheel>(buffer: &mut [u8], at: usize, net: &Net<W>, place: usize)
 // Puts the line of a place that starts at `start`.
 fn put_place<W: Wheel>(buffer: &mut [u8], at: usize, net: &Net<W>, place: usize, start: W) -> usize
     requires there_is_such_a_place { place < length (view W.Wheel net.now).places }
-    requires starts_there { W.Wheel.number start ≡ (place-number (view W.Wheel net.now) place).start }
-    requires room { at + length (ended (place_line (place-number (view W.Wheel net.now) place))) ≤ length buffer.old }
-    ensures puts_the_line { Puts buffer.old at (ended (place_line (place-number (view W.Wheel net.now) place))) buffer.new result }
+    requires starts_there { W.Wheel.number start ≡ (place_number (view W.Wheel net.now) place).start }
+    requires room { at + length (ended (place_line (place_number (view W.Wheel net.now) place))) ≤ length buffer.old }
+    ensures puts_the_line { Puts buffer.old at (ended (place_line (place_number (view W.Wheel net.now) place))) buffer.new result }
 {
     let at = put(buffer, at, PLACE);
     let at = put(buffer, at, &[digit_byte(start)]);

@@ -1,6 +1,6 @@
+// Tests of nets and galleys on small examples.
 #![tactic(auto)]
 
-// Tests of nets and galleys on small examples.
 #[cfg(test)]
 mod galleys;
 #[cfg(test)]

@@ -1,8 +1,8 @@
 // Reading a net.
 ghost use Rattle.std.specs.Prelude.{◌≡◌, ◌<◌, ◌≤◌, map, length, IfOk, vec_len, MatchOption};
 ghost use Rattle.net.specs.Views.{view, cell_of, CellsFor, place_count};
-ghost use Rattle.theory.specs.Nets.{Proper, place as place-number};
-ghost use Rattle.theory.specs.Places.{cell as cell-for};
+ghost use Rattle.theory.specs.Nets.{Proper, place as place_number};
+ghost use Rattle.theory.specs.Places.{cell as cell_for};
 
 use crate::cells::Cell;
 use crate::nets::Net;
@@ -27,14 +27,14 @@ impl<W: Wheel> Net<W> {
 
     // The start value of a place, if there is such a place.
     pub fn start(&self, place: usize) -> Option<W>
-        ensures is_the_start_value { MatchOption result (length (view W.Wheel self.now).places ≤ place) (λ s. (place < length (view W.Wheel self.now).places) × (W.Wheel.number s ≡ (place-number (view W.Wheel self.now) place).start)) }
+        ensures is_the_start_value { MatchOption result (length (view W.Wheel self.now).places ≤ place) (λ s. (place < length (view W.Wheel self.now).places) × (W.Wheel.number s ≡ (place_number (view W.Wheel self.now) place).start)) }
     {
         self.starts.get(place).copied()
     }
 
     // The cell of a place for a style, if there are such.
     pub fn cell(&self, place: usize, style: usize) -> Option<Cell<W>>
-        ensures is_the_cell { MatchOption result ((place < length (view W.Wheel self.now).places) × (style < (view W.Wheel self.now).styles) → ⊥) (λ c. (place < length (view W.Wheel self.now).places) × (style < (view W.Wheel self.now).styles) × (cell_of W.Wheel c ≡ cell-for (place-number (view W.Wheel self.now) place) style)) }
+        ensures is_the_cell { MatchOption result ((place < length (view W.Wheel self.now).places) × (style < (view W.Wheel self.now).styles) → ⊥) (λ c. (place < length (view W.Wheel self.now).places) × (style < (view W.Wheel self.now).styles) × (cell_of W.Wheel c ≡ cell_for (place_number (view W.Wheel self.now) place) style)) }
     {
         let places = self.starts.len();
         if place >= places || style >= self.styles {

@@ -1,4 +1,4 @@
-use Rattle.std.proofs.Common.{◌≡◌, ◌+◌, ◌-◌, ◌%◌, ◌<◌, mod-eq_of_lt, arith}
+use Rattle.std.proofs.Common.{◌-◌, ◌<◌, mod-eq_of_lt, arith}
 use Rattle.net_reading.proofs.cells.digit.Goals as goal
 
 pub returns : goal.returns

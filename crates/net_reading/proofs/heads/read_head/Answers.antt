@@ -5,7 +5,7 @@ use Rattle.std.proofs.lemmas.Option.{MatchOption-at_none, MatchOption-at_some}
 use Rattle.texts.specs.Forms.{wheel_line}
 use Rattle.texts.proofs.Forms.{Done}
 use Rattle.texts.proofs.NetStages.{fault_opening, fault_wheel_line, fault_other_wheel, fault_styles_line}
-use Rattle.net_reading.proofs.FirstFaults.{form_told, wheel_number, styles_number, no_wheel_line, no_styles_line, opening_done, wheel_done, three_lines}
+use Rattle.net_reading.proofs.FirstFaults.{form_told, wheel_number, no_wheel_line, no_styles_line, opening_done, wheel_done, three_lines}
 use Rattle.net_reading.proofs.heads.read_head.Goals as goal
 
 pub returns-in_err-rest : goal.returns-in_err-rest

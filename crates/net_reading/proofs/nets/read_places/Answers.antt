@@ -1,9 +1,9 @@
-use Rattle.std.proofs.Common.{◌≡◌, ℕ, ◌+◌, ◌<◌, ◌≤◌, map, length, sym, refl, ap, ◌∙◌, subst, arith, rules}
+use Rattle.std.proofs.Common.{◌≡◌, ℕ, ◌+◌, ◌<◌, length, refl, ap, ◌∙◌, arith, rules}
 use Rattle.std.proofs.lemmas.Result.{err_from_is_err_and}
 use Rattle.std.proofs.lemmas.Option.{MatchOption-at_none, MatchOption-at_some}
 use Rattle.lines.proofs.Refused.{refused, allowed}
 use Rattle.lines.specs.declared.faults.Cause.TheVariants.{Form}
-use Rattle.net.proofs.Proper.{Lawful, proper, places_counted}
+use Rattle.net.proofs.Proper.{Lawful, proper}
 use Rattle.net.specs.Views.{view}
 use Rattle.net_reading.proofs.SoFar.{place_more, places_break, places_all}
 use Rattle.net_reading.proofs.nets.read_places.Given as given

@@ -1,7 +1,5 @@
-use Rattle.std.proofs.Common.{◌≡◌, ◌+◌, ◌<◌, ◌≤◌, ◌++◌, map, length, take, vec_len}
+use Rattle.std.proofs.Common.{vec_len}
 use Rattle.net.specs.Views.{view}
-use Rattle.texts.specs.Lines.{text_of}
-use Rattle.texts.specs.NetText.{place_line}
 use Rattle.net_reading.specs.Owed.{PlacesSoFar}
 use Rattle.net_reading.proofs.nets.read_places.Given as goal
 

@@ -1,4 +1,4 @@
-use Rattle.std.proofs.Common.{◌≡◌, ◌<◌, ◌≤◌, ◌∷◌, map, length, get_or, vec_items, sym, refl, ap, ◌∙◌, arith, ltb-false, ltb-true}
+use Rattle.std.proofs.Common.{◌≡◌, map, length, vec_items, sym, refl, ap, ◌∙◌, arith, ltb-false, ltb-true}
 use Rattle.lines.proofs.FirstBytes.{after, opened, first}
 use Rattle.std.proofs.lemmas.List.{length-map}
 use Rattle.net.specs.Views.{cell_of}

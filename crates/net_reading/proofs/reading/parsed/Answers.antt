@@ -1,4 +1,4 @@
-use Rattle.std.proofs.Common.{◌≡◌, ℕ, ◌+◌, List, length, sym, refl, ap, ◌∙◌, subst, ap₂, arith}
+use Rattle.std.proofs.Common.{◌≡◌, ◌+◌, length, sym, ap, ◌∙◌, subst, arith}
 use Rattle.lines.proofs.Refused.{refused, allowed}
 use Rattle.std.proofs.lemmas.Result.{err_from_is_err_and}
 use Rattle.std.proofs.lemmas.Option.{MatchOption-at_none, MatchOption-at_some}
@@ -10,7 +10,7 @@ use Rattle.texts.proofs.NetEnds.{net_read}
 use Rattle.texts.specs.NetText.{net_text}
 use Rattle.net_reading.specs.Owed.{PlacesBreak, PlacesOpen}
 use Rattle.net_reading.specs.Reading.{NoEnd}
-use Rattle.net_reading.proofs.Parsing.{ThreeRead, names_fault, places_line_fault, places_fault, end_fault, whole_text}
+use Rattle.net_reading.proofs.Parsing.{names_fault, places_line_fault, places_fault, end_fault, whole_text}
 use Rattle.net_reading.proofs.Sizes.{three_read, idle_styles, idle_places}
 use Rattle.net_reading.proofs.reading.parsed.Given as given
 use Rattle.net_reading.proofs.reading.parsed.Goals as goal

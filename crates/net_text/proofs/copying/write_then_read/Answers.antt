@@ -1,4 +1,4 @@
-use Rattle.std.proofs.Common.{◌≡◌, is_err, Ok, sym, ap, ◌∙◌, subst}
+use Rattle.std.proofs.Common.{is_err, Ok, sym, ap, ◌∙◌, subst}
 use Rattle.net.proofs.Proper.{Lawful}
 use Rattle.net.specs.Views.{view}
 use Rattle.sheet.specs.Views.{names_of}
