@@ -38,14 +38,14 @@ module _ (InOrder InForm : ℕ → Type 0) (fewer : (i j : ℕ) → InOrder j �
       ]
 
 -- where neither the opening line nor a line of the body is a style line
-module _ (opening : List ℕ) (Body : ℕ → List ℕ → Type 0) (not_opening : (name : List ℕ) → opening ≡ style_line name → ⊥) (not_Is_body : (s : ℕ) (l name : List ℕ) → Body s l → l ≡ style_line name → ⊥) where
+module _ (opening : List ℕ) (Body : ℕ → List ℕ → Type 0) (not_opening : (name : List ℕ) → opening ≡ style_line name → ⊥) (not_body : (s : ℕ) (l name : List ℕ) → Body s l → l ≡ style_line name → ⊥) where
   -- a style line of a text in form is that of one of its styles
   pub style_index : (k n i : ℕ) (l name : List ℕ) → l ≡ style_line name → LineOf opening Body k n i l → (s : ℕ) × (i ≡ 3 + s) × (s < n)
   style_index k n i l name here (opens e is) = absurd (not_opening name (sym is ∙ here))
   style_index k n i l name here (names_wheel e is) = let byte : ◌≡◌ {A = ℕ} 119 115 = ap (λ m. get_or m 0 0) (sym is ∙ here) in absurd (omega arith)
   style_index k n i l name here (counts_styles e is) = let byte : ◌≡◌ {A = ℕ} 115 61 = ap (λ m. get_or m 5 0) (sym is ∙ here) in absurd (omega arith)
   style_index k n i l name here (names_style {s = s} e below form is) = (s, e, below)
-  style_index k n i l name here (in_body {s = s} e body) = absurd (not_Is_body s l name body here)
+  style_index k n i l name here (in_body {s = s} e body) = absurd (not_body s l name body here)
 
   -- no two lines in order are the same style line
   pub no_repeat : (k n : ℕ) (text : List ℕ) (j : ℕ) → Formed opening Body k n text j → DifferentTo n text j → (name : List ℕ) (a b : ℕ) → a < b → b < j → line text a ≡ style_line name → line text b ≡ style_line name → ⊥
