@@ -1,7 +1,7 @@
 // Style names of a text.
 ghost use Rattle.std.specs.Prelude.{◌≡◌, ℕ, List, MatchOption};
 ghost use Rattle.lines.specs.Opening.{NameBytes, FirstWord, StyleLine};
-ghost use Rattle.texts.specs.Names.{name_byte};
+ghost use Rattle.texts.specs.Names.{name_byte as is_name_byte};
 
 use crate::keys::STYLE;
 use crate::literals::literal;
@@ -9,7 +9,7 @@ use texts::limits::NAME_LIMIT;
 
 // Whether a style name may have the byte.
 fn name_byte(byte: u8) -> bool
-    ensures tells_name_bytes { result ≡ name_byte byte }
+    ensures tells_name_bytes { result ≡ is_name_byte byte }
 {
     byte.is_ascii_lowercase() || byte.is_ascii_digit() || byte == b'-'
 }

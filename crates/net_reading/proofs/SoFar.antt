@@ -10,7 +10,14 @@ use Rattle.texts.specs.NetText.{place_line}
 use Rattle.texts.proofs.Lines.{text_of_append, ended_rest}
 use Rattle.net.specs.Making.{with_place}
 use Rattle.net_reading.specs.Opening.{NoPlace}
-use Rattle.net_reading.specs.Owed.{PlacesOpen, PlacesBreak, PlacesSoFar}
+use Rattle.net_reading.specs.Owed.{PlacesOpen, PlacesBreak}
+
+-- the bytes opened with the lines of the first i places of the net, which has kept its size
+pub record PlacesSoFar (before : N.Net) (bytes : List ℕ) (i cells : ℕ) (N : N.Net) (rest : List ℕ) : Type 0 where
+  pub as_many_styles : N.styles ≡ before.styles
+  pub as_many_places : length N.places ≡ length before.places
+  pub one_cell_each : cells ≡ before.styles
+  pub opened : bytes ≡ text_of (map place_line (take i N.places)) ++ rest
 
 -- one line more
 pub lines_more : (ls : List (List ℕ)) (l bytes rest after : List ℕ) → bytes ≡ text_of ls ++ rest → rest ≡ l ++ (line_feed ∷ after) → bytes ≡ text_of (ls ++ (l ∷ [])) ++ after

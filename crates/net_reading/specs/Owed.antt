@@ -1,5 +1,5 @@
 -- What the parts of a reader of net texts owe. Assumes nothing.
-use Rattle.std.specs.Prelude.{◌≡◌, ℕ, suc, ◌+◌, ◌<◌, List, [], ◌++◌, map, length, take, Ok, Err, Result, slice_index_or}
+use Rattle.std.specs.Prelude.{◌≡◌, ℕ, suc, ◌+◌, ◌<◌, List, [], ◌++◌, map, length, Ok, Err, Result, slice_index_or}
 use Rattle.std.specs.Borrow.{Bor}
 use Rattle.theory.specs.Nets as N
 use Rattle.theory.specs.Places as P
@@ -28,10 +28,3 @@ pub record PlacesBreak (k n p : ℕ) (bytes : List ℕ) (fault : LineFault) : Ty
 abbrev pub PlacesOwe : ℕ → ℕ → ℕ → List ℕ → N.Net → Result (Bor (List ℕ)) LineFault → Type 0
 PlacesOwe k n p bytes N (Ok rest) = (N.styles ≡ n) × (length N.places ≡ p) × PlacesOpen k n bytes N.places rest.now
 PlacesOwe k n p bytes N (Err fault) = PlacesBreak k n p bytes fault
-
--- the bytes opened with the lines of the first i places of the net, which has kept its size
-pub record PlacesSoFar (before : N.Net) (bytes : List ℕ) (i cells : ℕ) (N : N.Net) (rest : List ℕ) : Type 0 where
-  pub as_many_styles : N.styles ≡ before.styles
-  pub as_many_places : length N.places ≡ length before.places
-  pub one_cell_each : cells ≡ before.styles
-  pub opened : bytes ≡ text_of (map place_line (take i N.places)) ++ rest

@@ -4,7 +4,7 @@ ghost use Rattle.net_reading.specs.Opening.{NoCells, NoPlace, place_of};
 ghost use Rattle.std.specs.List.{flat_map};
 ghost use Rattle.std.specs.Prelude.{◌≡◌, ◌∷◌, ◌++◌, map, vec_len, MatchOption};
 ghost use Rattle.texts.specs.Lines.{line_feed};
-ghost use Rattle.texts.specs.NetText.{cell_bytes, place_line};
+ghost use Rattle.texts.specs.NetText.{cell_bytes, place_line as line_of_place};
 
 use crate::cells::{cell, digit};
 use lines::keys::PLACE;
@@ -31,7 +31,7 @@ pub(crate) fn place_line<'a, W: Wheel>(
     bytes: &'a [u8],
     cells: &mut Vec<Cell<W>>,
 ) -> Option<(W, &'a [u8])>
-    ensures reads_a_places_line { MatchOption result (NoPlace W.Wheel.order (vec_len cells.old) bytes.now) (λ x. bytes.now ≡ place_line (place_of W.Wheel x.0 cells.new.items) ++ (line_feed ∷ x.1.now)) }
+    ensures reads_a_places_line { MatchOption result (NoPlace W.Wheel.order (vec_len cells.old) bytes.now) (λ x. bytes.now ≡ line_of_place (place_of W.Wheel x.0 cells.new.items) ++ (line_feed ∷ x.1.now)) }
     ensures as_many_cells_as_before { vec_len cells.new ≡ vec_len cells.old }
 {
     let [first, after @ ..] = literal(bytes, PLACE)? else {

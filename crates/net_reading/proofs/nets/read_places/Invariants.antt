@@ -1,6 +1,6 @@
 use Rattle.std.proofs.Common.{vec_len}
 use Rattle.net.specs.Views.{view}
-use Rattle.net_reading.specs.Owed.{PlacesSoFar}
+use Rattle.net_reading.proofs.SoFar.{PlacesSoFar}
 use Rattle.net_reading.proofs.nets.read_places.Given as goal
 
 abbrev pub invariant-loop-place : goal.invariant-loop-place
