@@ -4,7 +4,7 @@ ghost use Rattle.std.proofs.Common.{rules, arith};
 
 use crate::turning::Wheel;
 
-#[derive(Clone, Copy)]
+#[derive(Clone, Copy, Debug, PartialEq, Eq)]
 pub struct Four {
     value: u8,
     ghost below_four: { value < 4 },
@@ -13,19 +13,15 @@ pub struct Four {
 impl Wheel for Four {
     const K: u8 = 4;
 
-    ghost order = { 4 };
+    ghost K = { 4 };
 
     ghost number = { λ x. x.value };
 
-    ghost at_least_two = { first_of (Prim.search rules, Prim.grind (arith, Self.row.coded.inj)) };
+    ghost at_least_two = { Prim.search rules };
 
-    ghost at_most_nine = { first_of (Prim.search rules, Prim.grind (arith, Self.row.coded.inj)) };
+    ghost at_most_nine = { Prim.search rules };
 
-    ghost numbers_are_below_the_order = { first_of (Prim.search rules, Prim.grind (arith, Self.row.coded.inj)) };
-
-    fn positions() -> u8 {
-        Self::K
-    }
+    ghost numbers_are_below_the_order = { Prim.grind arith };
 
     fn from_digit(digit: u8) -> Four {
         Four { value: digit % 4 }
@@ -48,6 +44,6 @@ impl Wheel for Four {
     }
 
     fn same(self, other: Four) -> bool {
-        other.value == self.value
+        self == other
     }
 }

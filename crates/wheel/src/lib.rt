@@ -3,7 +3,6 @@
 
 pub mod dividing;
 pub mod four;
-pub mod orders;
 #[cfg(test)]
 mod tests;
 pub mod three;

@@ -6,7 +6,7 @@ ghost use Rattle.std.proofs.Common.{rules, arith};
 use crate::dividing::DividingWheel;
 use crate::turning::Wheel;
 
-#[derive(Clone, Copy)]
+#[derive(Clone, Copy, Debug, PartialEq, Eq)]
 pub struct Three {
     value: i8,
     ghost at_least_minus_one: { negsuc 0 ≤ℤ value },
@@ -33,19 +33,15 @@ impl Three {
 impl Wheel for Three {
     const K: u8 = 3;
 
-    ghost order = { 3 };
+    ghost K = { 3 };
 
     ghost number = { λ x. residue x.value };
 
-    ghost at_least_two = { first_of (Prim.search rules, Prim.grind (arith, Self.row.coded.inj)) };
+    ghost at_least_two = { Prim.search rules };
 
-    ghost at_most_nine = { first_of (Prim.search rules, Prim.grind (arith, Self.row.coded.inj)) };
+    ghost at_most_nine = { Prim.search rules };
 
-    ghost numbers_are_below_the_order = { first_of (Prim.search rules, Prim.grind (arith, Self.row.coded.inj)) };
-
-    fn positions() -> u8 {
-        Self::K
-    }
+    ghost numbers_are_below_the_order = { Prim.grind arith };
 
     fn from_digit(digit: u8) -> Three {
         match digit % 3 {
@@ -68,7 +64,7 @@ impl Wheel for Three {
     }
 
     fn same(self, other: Three) -> bool {
-        self.value == other.value
+        self == other
     }
 }
 
@@ -79,7 +75,8 @@ impl DividingWheel for Three {
         }
     }
 
+    // The square of -1 is 1, as that of 1 is, so each position is its own partner.
     fn partner(self) -> Three {
-        Three { value: self.value }
+        self
     }
 }

@@ -6,19 +6,22 @@ pub trait Wheel: Copy {
     // How many positions the wheel has.
     const K: u8;
 
-    // The same number, for proofs: generic proofs cannot name the constant, and `positions` ties the two.
-    ghost order: { ℕ };
+    // The constant, as clauses name it.
+    ghost K: { ℕ };
 
     // The number that a position stands for.
     ghost number: { Self → ℕ };
 
     // k.
     fn positions() -> u8
-        ensures is_the_order { result ≡ order };
+        ensures is_the_order { result ≡ K }
+    {
+        Self::K
+    }
 
     // The position of a digit; a digit of k or more counts by its remainder.
     fn from_digit(digit: u8) -> Self
-        ensures stands_for_the_remainder { number result ≡ digit % order };
+        ensures stands_for_the_remainder { number result ≡ digit % K };
 
     // The number that the position stands for.
     fn digit(self) -> u8
@@ -26,19 +29,19 @@ pub trait Wheel: Copy {
 
     // The remainder of x + y.
     fn turn(self, by: Self) -> Self
-        ensures stands_for_the_sum { number result ≡ (number self + number by) % order };
+        ensures stands_for_the_sum { number result ≡ (number self + number by) % K };
 
     // The remainder of x - y.
     fn turn_back(self, by: Self) -> Self
-        ensures stands_for_the_difference { number result ≡ (number self + (order - number by)) % order };
+        ensures stands_for_the_difference { number result ≡ (number self + (K - number by)) % K };
 
-    // Whether two positions stand for one number.
+    // Whether two positions stand for one number. Each wheel tells it itself: `==` tells two values of one number apart.
     fn same(self, other: Self) -> bool
         ensures yes_exactly_for_one_number { (result ≡ true → number self ≡ number other) × (number self ≡ number other → result ≡ true) };
 
-    ghost at_least_two: { 2 ≤ order };
+    ghost at_least_two: { 2 ≤ K };
 
-    ghost at_most_nine: { order ≤ 9 };
+    ghost at_most_nine: { K ≤ 9 };
 
-    ghost numbers_are_below_the_order: { (x : Self) → number x < order };
+    ghost numbers_are_below_the_order: { (x : Self) → number x < K };
 }

@@ -5,7 +5,7 @@ ghost use Rattle.std.proofs.Common.{rules};
 use crate::dividing::DividingWheel;
 use crate::turning::Wheel;
 
-#[derive(Clone, Copy)]
+#[derive(Clone, Copy, Debug, PartialEq, Eq)]
 pub struct Two {
     bit: bool,
 }
@@ -13,7 +13,7 @@ pub struct Two {
 impl Wheel for Two {
     const K: u8 = 2;
 
-    ghost order = { 2 };
+    ghost K = { 2 };
 
     // A set bit stands for 1.
     ghost number = { λ x. (if x.bit then 1 else 0) };
@@ -24,10 +24,6 @@ impl Wheel for Two {
 
     ghost numbers_are_below_the_order = { Prim.search rules };
 
-    fn positions() -> u8 {
-        Self::K
-    }
-
     fn from_digit(digit: u8) -> Two {
         Two {
             bit: digit % 2 == 1,
@@ -35,7 +31,7 @@ impl Wheel for Two {
     }
 
     fn digit(self) -> u8 {
-        if self.bit { 1 } else { 0 }
+        u8::from(self.bit)
     }
 
     fn turn(self, by: Two) -> Two {
@@ -49,7 +45,7 @@ impl Wheel for Two {
     }
 
     fn same(self, other: Two) -> bool {
-        self.bit == other.bit
+        self == other
     }
 }
 
@@ -60,7 +56,8 @@ impl DividingWheel for Two {
         }
     }
 
+    // 1 times 1 is 1, so each position is its own partner.
     fn partner(self) -> Two {
-        Two { bit: self.bit }
+        self
     }
 }
