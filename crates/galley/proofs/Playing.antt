@@ -148,13 +148,13 @@ module _ {W : Type 0} (w : Ghosts W) (net : Net W w) where
   }
     where
       long : length (map (λ p. p.start) (view w net).places) ≡ length (showing (view w net) [])
-      long = length-map (view w net).places (λ p. p.start) ∙ sym (length-map (view w net).places (λ p. P.shows w.order p (position w.order [])))
+      long = length-map (view w net).places (λ p. p.start) ∙ sym (length-map (view w net).places (λ p. P.shows w.K p (position w.K [])))
 
       each : (i d : ℕ) → i < length (map (λ p. p.start) (view w net).places) → get_or (map (λ p. p.start) (view w net).places) i d ≡ get_or (showing (view w net) []) i d
       each i d h =
           let within : i < length (view w net).places = omega (arith, length-map (view w net).places (λ p. p.start)) in
           get_or-map (λ p. p.start) (view w net).places i (record { start = 0; cells = [] }) d within
-          ∙ sym (shows_start w.order (N.place (view w net) i) (proper.each_place i within).start_below)
+          ∙ sym (shows_start w.K (N.place (view w net) i) (proper.each_place i within).start_below)
           ∙ sym (shown_at (view w net) [] i d within)
 
   -- a galley that has set a run, and then accepts a style, has set the longer run

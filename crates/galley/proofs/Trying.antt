@@ -27,11 +27,11 @@ pub record Going {W : Type 0} (w : Ghosts W) (net : Net W w) (start now : List W
 
 module _ {W : Type 0} (w : Ghosts W) (net : Net W w) (start : List W) (run : List ℕ) where
   -- a step of the run, its style's cells, and the values now
-  module _ (now : List W) (steps : ℕ) (going : Going w net start now run steps) (here : steps < length run) (cells : List P.Cell) (row : cells ≡ map (λ p. P.cell p (get_or run steps 0)) (view w net).places) (proper : N.Proper (view w net)) (below : (i : ℕ) → get_or (map w.number now) i 0 < w.order) (known : get_or run steps 0 < (view w net).styles) where
+  module _ (now : List W) (steps : ℕ) (going : Going w net start now run steps) (here : steps < length run) (cells : List P.Cell) (row : cells ≡ map (λ p. P.cell p (get_or run steps 0)) (view w net).places) (proper : N.Proper (view w net)) (below : (i : ℕ) → get_or (map w.number now) i 0 < w.K) (known : get_or run steps 0 < (view w net).styles) where
     longer : take (steps + 1) run ≡ take steps run ++ get_or run steps 0 ∷ []
     longer = take_more run steps 0 here
 
-    pub going_more : (next : List W) → NoneRefuses cells (map w.number now) (length cells) → Turned w.order cells (map w.number now) (length cells) (map w.number next) → Going w net start next run (steps + 1)
+    pub going_more : (next : List W) → NoneRefuses cells (map w.number now) (length cells) → Turned w.K cells (map w.number now) (length cells) (map w.number next) → Going w net start next run (steps + 1)
     going_more next none turned =
         let style = get_or run steps 0 in
         let leads = turned_leads (view w net) style cells (map w.number now) row proper below known none (map w.number next) turned in
@@ -49,7 +49,7 @@ module _ {W : Type 0} (w : Ghosts W) (net : Net W w) (start : List W) (run : Lis
               (enabled_same (test_and_flip (view w net)) (marks w now) _ style going.marking leads.enabled));
           marking = λ p h.
               leads.moved p h
-              ∙ ap (λ v. (v + (test_and_flip (view w net)).c p style) % w.order) (going.marking p h)
+              ∙ ap (λ v. (v + (test_and_flip (view w net)).c p style) % w.K) (going.marking p h)
               ∙ ap (λ m. m p) (sym (after_push (test_and_flip (view w net)) (marks w start) (take steps run) style))
               ∙ ap (λ ts. after (test_and_flip (view w net)) (marks w start) ts p) (sym longer);
         }

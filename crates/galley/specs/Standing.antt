@@ -10,4 +10,4 @@ use Rattle.net.specs.declared.nets.Net.{Net}
 -- the run was accepted, one style after the other, and the values are what the places show at its position
 pub record Stands {W : Type 0} (w : Ghosts W) (net : Net W w) (values : List W) (run : List ℕ) : Type 0 where
   pub accepted : Accepted (view w net) run
-  pub showing : map w.number values ≡ map (λ p. shows w.order p (position w.order run)) (view w net).places
+  pub showing : map w.number values ≡ map (λ p. shows w.K p (position w.K run)) (view w net).places

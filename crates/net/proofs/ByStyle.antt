@@ -7,8 +7,9 @@ use Rattle.std.specs.Slice.{IsGetResult}
 use Rattle.theory.specs.Nets as N
 use Rattle.theory.specs.Places as P
 use Rattle.wheel.specs.declared.turning.Wheel.{Ghosts}
-use Rattle.net.specs.Views.{idle, cell_of, laid_out}
+use Rattle.net.specs.Views.{idle, cell_of, laid_out, view, CellsFor}
 use Rattle.net.specs.declared.cells.Cell.{Cell}
+use Rattle.net.specs.declared.nets.Net.{Net}
 use Rattle.net.proofs.Views.{laid_places, laid_place, laid_cell}
 
 -- the cell of a place lies within the table
@@ -40,11 +41,6 @@ module _ {W : Type 0} (w : Ghosts W) (n : ℕ) (starts : List W) (cells : List (
           ∙ sym (get_or-map (λ p. p.start) (laid_out w n starts cells).places i (record { start = 0; cells = [] }) d (omega (arith, laid_places w n starts cells)))
 
   module _ (size : length cells ≡ n * length starts) where
-    pub cell_read : (i style : ℕ) (x : Cell W) → i < length starts → style < n → x ≡ get_or cells (style * length starts + i) x → cell_of w x ≡ P.cell (N.place (laid_out w n starts cells) i) style
-    cell_read i style x h below e =
-        let within = room n (length starts) style i (length cells) h below size in
-        ap (cell_of w) e ∙ sym (get_or-map (cell_of w) cells (style * length starts + i) x idle within) ∙ sym (laid_cell w n starts cells i style h below)
-
     -- the cells of all places for one style lie side by side
     pub row_read : (style : ℕ) → style < n → map (cell_of w) (take (length starts) (drop (style * length starts) cells)) ≡ map (λ p. P.cell p style) (laid_out w n starts cells).places
     row_read style below = same_lists _ _ long each
@@ -78,3 +74,22 @@ module _ {W : Type 0} (w : Ghosts W) (n : ℕ) (starts : List W) (cells : List (
   start_found i (Some x) item =
       let within : i < length starts = item.3.0 in
       (omega (arith, laid_places w n starts cells), start_read i x.now within item.1)
+
+module _ {W : Type 0} (w : Ghosts W) (net : Net W w) (style : ℕ) (cells : List (Cell W)) (found : CellsFor w net style cells) where
+  as_many : length cells ≡ length (view w net).places
+  as_many = sym (length-map cells (cell_of w)) ∙ ap length found.row ∙ length-map (view w net).places (λ p. P.cell p style)
+
+  -- what a look-up among the cells for a style finds
+  pub cell_found : (i : ℕ) (o : Option (Bor (Cell W))) → IsGetResult cells i i o → MatchOption (option_map (λ x. x.now) o) ((i < length (view w net).places) × (style < (view w net).styles) → ⊥) (λ c. (i < length (view w net).places) × (style < (view w net).styles) × (cell_of w c ≡ P.cell (N.place (view w net) i) style))
+  cell_found i None item = λ h. let past = item.3 in absurd (omega (arith, as_many))
+  cell_found i (Some x) item =
+      let within : i < length cells = item.3.0 in
+      let inside : i < length (view w net).places = omega (arith, as_many) in
+      (
+        inside,
+        found.known,
+        ap (cell_of w) item.1
+            ∙ sym (get_or-map (cell_of w) cells i x.now idle within)
+            ∙ ap (λ xs. get_or xs i idle) found.row
+            ∙ get_or-map (λ p. P.cell p style) (view w net).places i (record { start = 0; cells = [] }) idle inside,
+      )

@@ -13,9 +13,9 @@ use Rattle.net.proofs.Views.{laid_places, laid_place}
 
 -- what the laws of the trait say of a wheel
 pub record Lawful {W : Type 0} (w : Ghosts W) : Type 0 where
-  pub from_two : 2 ≤ w.order
-  pub to_nine : w.order ≤ 9
-  pub below : (x : W) → w.number x < w.order
+  pub from_two : 2 ≤ w.K
+  pub to_nine : w.K ≤ 9
+  pub below : (x : W) → w.number x < w.K
 
 module _ {W : Type 0} (w : Ghosts W) where
   -- the number of places, as the code counts it
@@ -32,16 +32,16 @@ module _ {W : Type 0} (w : Ghosts W) where
       row_room net.styles p style (length cells) below (ap length e ∙ cells_counted net ∙ ap (λ z. net.styles * z) (sym (count ∙ net.starts.ok.0)))
 
   module _ (laws : Lawful w) where
-    pub number_below : (xs : List W) (i : ℕ) → get_or (map w.number xs) i 0 < w.order
+    pub number_below : (xs : List W) (i : ℕ) → get_or (map w.number xs) i 0 < w.K
     number_below [] i = omega (arith, laws.from_two)
     number_below (x ∷ xs) zero = laws.below x
     number_below (x ∷ xs) (suc i) = number_below xs i
 
-    wanted_below : (o : Option W) (v : ℕ) → option_map w.number o ≡ Some v → v < w.order
+    wanted_below : (o : Option W) (v : ℕ) → option_map w.number o ≡ Some v → v < w.K
     wanted_below None v e = let never : ◌≡◌ {A = ℕ} 0 1 = cc in absurd (omega arith)
-    wanted_below (Some x) v e = let same : w.number x ≡ v = cc in subst (λ z. z < w.order) same (laws.below x)
+    wanted_below (Some x) v e = let same : w.number x ≡ v = cc in subst (λ z. z < w.K) same (laws.below x)
 
-    cell_below : (cs : List (Cell W)) (j : ℕ) → CellOn w.order (get_or (map (cell_of w) cs) j idle)
+    cell_below : (cs : List (Cell W)) (j : ℕ) → CellOn w.K (get_or (map (cell_of w) cs) j idle)
     cell_below [] j = record {
       turn_below = omega (arith, laws.from_two);
       wanted_below = λ v e. let never : ◌≡◌ {A = ℕ} 0 1 = cc in absurd (omega arith);
@@ -49,12 +49,12 @@ module _ {W : Type 0} (w : Ghosts W) where
     cell_below (c ∷ cs) zero = record { turn_below = laws.below c.turn; wanted_below = wanted_below c.wanted }
     cell_below (c ∷ cs) (suc j) = cell_below cs j
 
-    place_good : (n : ℕ) (starts : List W) (cells : List (Cell W)) (i : ℕ) → PlaceOn w.order n (place_at w n starts cells i)
+    place_good : (n : ℕ) (starts : List W) (cells : List (Cell W)) (i : ℕ) → PlaceOn w.K n (place_at w n starts cells i)
     place_good n starts cells i = record {
       one_cell_each = length-map-range_with_len (cell_at w starts cells i) 0 n;
       start_below = number_below starts i;
       cells_below = λ style h.
-          subst (CellOn w.order) (sym (get_or-map-range_with_len (cell_at w starts cells i) 0 n style style idle h (omega arith))) (cell_below cells _);
+          subst (CellOn w.K) (sym (get_or-map-range_with_len (cell_at w starts cells i) 0 n style style idle h (omega arith))) (cell_below cells _);
     }
 
     pub proper : (net : Net W w) → Proper (view w net)
@@ -67,5 +67,5 @@ module _ {W : Type 0} (w : Ghosts W) where
           few_styles = net.few_styles;
           few_places = omega (arith, net.few_places);
           each_place = λ i h.
-              subst (PlaceOn w.order net.styles) (sym (laid_place w net.styles (vec_items net.starts) (vec_items net.cells) i (omega (arith, net.starts.ok.0)))) (place_good net.styles (vec_items net.starts) (vec_items net.cells) i);
+              subst (PlaceOn w.K net.styles) (sym (laid_place w net.styles (vec_items net.starts) (vec_items net.cells) i (omega (arith, net.starts.ok.0)))) (place_good net.styles (vec_items net.starts) (vec_items net.cells) i);
         }

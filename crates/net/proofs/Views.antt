@@ -46,14 +46,14 @@ module _ {W : Type 0} (w : Ghosts W) where
       let cells : map (cell_of w) (replicate (n * p) c) ≡ replicate (n * p) idle = map_replicate (cell_of w) (n * p) c ∙ ap (replicate (n * p)) f in
       let start : (i : ℕ) → get_or (map w.number (replicate p z)) i 0 ≡ 0 = λ i. ap (λ xs. get_or xs i 0) starts ∙ get_d_equal p i 0 in
       let cell : (j : ℕ) → get_or (map (cell_of w) (replicate (n * p) c)) j idle ≡ idle = λ j. ap (λ xs. get_or xs j idle) cells ∙ get_d_equal (n * p) j idle in
-      ap (λ ps. record { order = w.order; styles = n; places = ps })
+      ap (λ ps. record { order = w.K; styles = n; places = ps })
       (constant (place_at w n (replicate p z) (replicate (n * p) c)) (length (replicate p z)) (record { start = 0; cells = replicate n idle })
       (λ i h. ap₂ (λ s cs. record { start = s; cells = cs }) (start i) (constant (cell_at w (replicate p z) (replicate (n * p) c) i) n idle (λ t _. cell (t * length (replicate p z) + i))))
       ∙ ap (λ m. replicate m (record { start = 0; cells = replicate n idle })) (length-replicate p z))
 
   pub put_laid : (n : ℕ) (starts : List W) (cells after : List (Cell W)) (i : ℕ) (start : W) (values : List (Cell W)) → i < length starts → length values ≡ n → length cells ≡ n * length starts → ColumnWritten cells (length starts) i values (length values) after → laid_out w n (set starts i start) after ≡ with_place (laid_out w n starts cells) i (record { start = w.number start; cells = map (cell_of w) values })
   put_laid n starts cells after i start values within count size so =
-      ap (λ ps. record { order = w.order; styles = n; places = ps }) (same_lists _ _ long each)
+      ap (λ ps. record { order = w.K; styles = n; places = ps }) (same_lists _ _ long each)
     where
       column : ColumnWritten (map (cell_of w) cells) (length starts) i (map (cell_of w) values) (length values) (map (cell_of w) after)
       column = column_mapped (cell_of w) cells (length starts) i values after within (size ∙ ap (λ z. z * length starts) (sym count)) so

@@ -29,7 +29,7 @@ module _ {W : Type 0} (w : Ghosts W) where
 
   -- the net of a number of styles, a start value for each place, and cells that lie by style
   abbrev pub laid_out : ℕ → List W → List (Cell W) → N.Net
-  laid_out styles starts cells = record { order = w.order; styles = styles; places = map (place_at styles starts cells) (range_with_len 0 (length starts)) }
+  laid_out styles starts cells = record { order = w.K; styles = styles; places = map (place_at styles starts cells) (range_with_len 0 (length starts)) }
 
   abbrev pub view : Net W w → N.Net
   view net = laid_out net.styles (vec_items net.starts) (vec_items net.cells)
@@ -42,4 +42,4 @@ module _ {W : Type 0} (w : Ghosts W) where
 
   -- a net whose places all start at 0, test nothing and turn nothing
   abbrev pub idle_net : ℕ → ℕ → N.Net
-  idle_net styles places = record { order = w.order; styles = styles; places = replicate places (record { start = 0; cells = replicate styles idle }) }
+  idle_net styles places = record { order = w.K; styles = styles; places = replicate places (record { start = 0; cells = replicate styles idle }) }

@@ -10,7 +10,7 @@ use crate::cells::Cell;
 use wheel::turning::Wheel;
 use wheel::two::Two;
 
-#[derive(Clone, Copy, Debug)]
+#[derive(Clone, Copy, Debug, PartialEq, Eq)]
 pub enum Arc {
     // Neither tests nor turns.
     NoArc,

@@ -36,15 +36,6 @@ impl<W: Wheel> Cell<W> {
     pub fn missed(self, shown: W) -> Option<W>
         ensures missed_exactly_where_unwanted { MatchOption result (Unwanted (cell_of W.Wheel self).wanted (W.Wheel.number shown) → ⊥) (λ wanted. (self.wanted ≡ Some wanted) × (W.Wheel.number shown ≢ W.Wheel.number wanted)) }
     {
-        match self.wanted {
-            Some(wanted) => {
-                if wanted.same(shown) {
-                    None
-                } else {
-                    Some(wanted)
-                }
-            }
-            None => None,
-        }
+        self.wanted.filter(|wanted| !wanted.same(shown))
     }
 }

@@ -3,14 +3,12 @@ ghost use Rattle.std.specs.Prelude.{◌≡◌, replicate, IfOk, vec_len};
 
 use std::alloc::{AllocError, Global};
 
-// n times x.
+// n times x. `vec![x; n]` promises clones of x, which at a type parameter need not be equal to it.
 pub fn filled<T: Copy>(heap: Global, x: T, n: usize) -> Result<Vec<T>, AllocError>
     ensures holds_n_times_x { IfOk result (λ v. v.items ≡ replicate n x) }
     ensures has_n_elements { IfOk result (λ v. vec_len v ≡ n) }
 {
-    let mut all = Vec::with_capacity(heap, n)?;
-    for _ in 0..n {
-        all.push(x)?;
-    }
+    let mut all = Vec::new(heap);
+    all.resize(n, x)?;
     Ok(all)
 }

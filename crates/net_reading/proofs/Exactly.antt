@@ -21,7 +21,7 @@ refused_exactly k text (TooLong bytes) first = λ is. not_both k text (F.over_lo
 refused_exactly k text (OtherWheel wheel) first = λ is. not_both k text (F.other_wheel wheel) is first
 refused_exactly k text OutOfMemory first = tt
 
-pub accepted_exactly : {W : Type 0} (w : Ghosts W) → Lawful w → (text : List ℕ) (net : Net W w) (sheet : Sheet) → length (names_of sheet) ≡ (view w net).styles → text ≡ net_text (view w net) (names_of sheet) → IsNetText w.order text
+pub accepted_exactly : {W : Type 0} (w : Ghosts W) → Lawful w → (text : List ℕ) (net : Net W w) (sheet : Sheet) → length (names_of sheet) ≡ (view w net).styles → text ≡ net_text (view w net) (names_of sheet) → IsNetText w.K text
 accepted_exactly w laws text net sheet count is = (
   view w net,
   names_of sheet,

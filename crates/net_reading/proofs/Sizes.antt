@@ -12,10 +12,10 @@ use Rattle.net.specs.declared.nets.Net.{Net}
 use Rattle.net_reading.proofs.Parsing.{ThreeRead}
 
 module _ {W : Type 0} (w : Ghosts W) where
-  pub wheel_good : Lawful w → (positions : ℕ) → positions ≡ w.order → WheelGood positions
+  pub wheel_good : Lawful w → (positions : ℕ) → positions ≡ w.K → WheelGood positions
   wheel_good laws positions is = subst WheelGood (sym is) record { from_two = laws.from_two; to_nine = laws.to_nine }
 
-  pub three_read : Lawful w → (positions n : ℕ) (text rest : List ℕ) → positions ≡ w.order → StylesGood n × (length text ≤ text_limit) × (text ≡ text_of (net_opening ∷ wheel_line positions ∷ styles_line n ∷ []) ++ rest) → ThreeRead w.order n text rest
+  pub three_read : Lawful w → (positions n : ℕ) (text rest : List ℕ) → positions ≡ w.K → StylesGood n × (length text ≤ text_limit) × (text ≡ text_of (net_opening ∷ wheel_line positions ∷ styles_line n ∷ []) ++ rest) → ThreeRead w.K n text rest
   three_read laws positions n text rest is (styles, short, head) = record {
     wheel = record { from_two = laws.from_two; to_nine = laws.to_nine };
     styles = styles;

@@ -50,7 +50,7 @@ RefusedExactly k text (Err fault) = OnSome (fault_of fault) (IsNetText k text �
 -- a net and a sheet whose text this is, or the text's first fault
 abbrev pub Parsed : {W : Type 0} → (w : Ghosts W) → List ℕ → Result (Net W w × Names) TextFault → Type 0
 Parsed w text (Ok (net, sheet)) = (length (names_of sheet) ≡ (view w net).styles) × (text ≡ net_text (view w net) (names_of sheet))
-Parsed w text (Err fault) = Faulty w.order text fault
+Parsed w text (Err fault) = Faulty w.K text fault
 
 -- what Read answers: a refusal by its number and its values
 abbrev pub read_outcome : {A : Type 0} → Result A TextFault → Outcome A

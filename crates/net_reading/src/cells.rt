@@ -10,7 +10,7 @@ use wheel::turning::Wheel;
 
 // The position of a digit below k.
 pub(crate) fn digit<W: Wheel>(byte: u8) -> Option<W>
-    ensures reads_a_digit_of_the_wheel { MatchOption result (NoDigit W.Wheel.order byte) (λ x. byte ≡ digit_byte (W.Wheel.number x)) }
+    ensures reads_a_digit_of_the_wheel { MatchOption result (NoDigit W.Wheel.K byte) (λ x. byte ≡ digit_byte (W.Wheel.number x)) }
 {
     if byte < b'0' {
         return None;
@@ -24,7 +24,7 @@ pub(crate) fn digit<W: Wheel>(byte: u8) -> Option<W>
 
 // The wanted value of a cell: none for a full stop.
 fn wanted<W: Wheel>(byte: u8) -> Option<Option<W>>
-    ensures reads_what_is_wanted { MatchOption result (NoWanted W.Wheel.order byte) (λ o. byte ≡ wanted_byte (option_map W.Wheel.number o)) }
+    ensures reads_what_is_wanted { MatchOption result (NoWanted W.Wheel.K byte) (λ o. byte ≡ wanted_byte (option_map W.Wheel.number o)) }
 {
     if byte == b'.' {
         return Some(None);
@@ -34,7 +34,7 @@ fn wanted<W: Wheel>(byte: u8) -> Option<Option<W>>
 
 // A cell and the bytes after it.
 pub(crate) fn cell<'a, W: Wheel>(bytes: &'a [u8]) -> Option<(Cell<W>, &'a [u8])>
-    ensures reads_a_cell_of_the_wheel { MatchOption result (NoCell W.Wheel.order bytes.now) (λ x. bytes.now ≡ cell_bytes (cell_of W.Wheel x.0) ++ x.1.now) }
+    ensures reads_a_cell_of_the_wheel { MatchOption result (NoCell W.Wheel.K bytes.now) (λ x. bytes.now ≡ cell_bytes (cell_of W.Wheel x.0) ++ x.1.now) }
 {
     let [b' ', first, second, rest @ ..] = bytes else {
         return None;

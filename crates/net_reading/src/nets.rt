@@ -30,7 +30,7 @@ pub(crate) fn read_places<'a, W: Wheel>(
     cells: &mut Vec<Cell<W>>,
 ) -> Result<&'a [u8], LineFault>
     requires one_cell_for_each_style { vec_len cells.old ≡ (view W.Wheel net.old).styles }
-    ensures reads_every_place_or_tells_where_they_break_off { PlacesOwe W.Wheel.order (view W.Wheel net.old).styles (length (view W.Wheel net.old).places) bytes.now (view W.Wheel net.new) result }
+    ensures reads_every_place_or_tells_where_they_break_off { PlacesOwe W.Wheel.K (view W.Wheel net.old).styles (length (view W.Wheel net.old).places) bytes.now (view W.Wheel net.new) result }
 {
     let mut rest = bytes;
     for place in 0..net.places() {

@@ -14,7 +14,7 @@ use wheel::turning::Wheel;
 
 // Reads over all the cells, and answers the bytes after them.
 fn read_cells<'a, W: Wheel>(bytes: &'a [u8], cells: &mut Vec<Cell<W>>) -> Option<&'a [u8]>
-    ensures reads_every_cell { MatchOption result (NoCells W.Wheel.order (vec_len cells.old) bytes.now) (λ rest. bytes.now ≡ flat_map cell_bytes (map (cell_of W.Wheel) cells.new.items) ++ rest.now) }
+    ensures reads_every_cell { MatchOption result (NoCells W.Wheel.K (vec_len cells.old) bytes.now) (λ rest. bytes.now ≡ flat_map cell_bytes (map (cell_of W.Wheel) cells.new.items) ++ rest.now) }
     ensures as_many_cells_as_before { vec_len cells.new ≡ vec_len cells.old }
 {
     let mut rest = bytes;
@@ -31,7 +31,7 @@ pub(crate) fn place_line<'a, W: Wheel>(
     bytes: &'a [u8],
     cells: &mut Vec<Cell<W>>,
 ) -> Option<(W, &'a [u8])>
-    ensures reads_a_places_line { MatchOption result (NoPlace W.Wheel.order (vec_len cells.old) bytes.now) (λ x. bytes.now ≡ line_of_place (place_of W.Wheel x.0 cells.new.items) ++ (line_feed ∷ x.1.now)) }
+    ensures reads_a_places_line { MatchOption result (NoPlace W.Wheel.K (vec_len cells.old) bytes.now) (λ x. bytes.now ≡ line_of_place (place_of W.Wheel x.0 cells.new.items) ++ (line_feed ∷ x.1.now)) }
     ensures as_many_cells_as_before { vec_len cells.new ≡ vec_len cells.old }
 {
     let [first, after @ ..] = literal(bytes, PLACE)? else {

@@ -58,9 +58,9 @@ pub fn read<W: Wheel>(
     net: &mut Net<W>,
     sheet: &mut Sheet,
 ) -> Result<(), TextFault>
-    ensures the_net_read_has_that_text { ReadOwes W.Wheel.order text.now (view W.Wheel net.new) (names_of sheet.new) result }
-    ensures refused_by_the_number_and_values_of_the_first_fault { Answers W.Wheel.order text.now (read_outcome result) }
-    ensures refused_exactly_where_it_is_no_net_text { RefusedExactly W.Wheel.order text.now result }
+    ensures the_net_read_has_that_text { ReadOwes W.Wheel.K text.now (view W.Wheel net.new) (names_of sheet.new) result }
+    ensures refused_by_the_number_and_values_of_the_first_fault { Answers W.Wheel.K text.now (read_outcome result) }
+    ensures refused_exactly_where_it_is_no_net_text { RefusedExactly W.Wheel.K text.now result }
     ensures refused_calls_change_no_net { is_err result ≡ true → net.new ≡ net.old }
     ensures refused_calls_change_no_sheet { is_err result ≡ true → sheet.new ≡ sheet.old }
 {

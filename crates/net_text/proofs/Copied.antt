@@ -31,7 +31,7 @@ module _ {W : Type 0} (w : Ghosts W) (laws : Lawful w) where
   named : (net : Net W w) (sheet : Sheet) → length (names_of sheet) ≡ (view w net).styles → Named (view w net) (names_of sheet)
   named net sheet count = record { proper = proper w laws net; sheet = names_formed sheet; one_name_each = count }
 
-  pub is_net_text : (net : Net W w) (sheet : Sheet) (text : List ℕ) → length (names_of sheet) ≡ (view w net).styles → text ≡ net_text (view w net) (names_of sheet) → IsNetText w.order text
+  pub is_net_text : (net : Net W w) (sheet : Sheet) (text : List ℕ) → length (names_of sheet) ≡ (view w net).styles → text ≡ net_text (view w net) (names_of sheet) → IsNetText w.K text
   is_net_text net sheet text count is = (view w net, names_of sheet, named net sheet count, refl, is)
 
   pub same_net : (net other : Net W w) (sheet others : Sheet) → length (names_of sheet) ≡ (view w net).styles → length (names_of others) ≡ (view w other).styles → net_text (view w other) (names_of others) ≡ net_text (view w net) (names_of sheet) → (view w other ≡ view w net) × (names_of others ≡ names_of sheet)

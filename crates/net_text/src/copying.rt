@@ -40,7 +40,7 @@ pub fn read_then_write<W: Wheel>(
     sheet: &mut Sheet,
     buffer: &mut [u8],
 ) -> Result<usize, CopyRefusal>
-    ensures a_read_nets_text_is_the_text_that_was_read { RewrittenOwes W.Wheel.order text.now buffer.old buffer.new (view W.Wheel net.new) (names_of sheet.new) result }
+    ensures a_read_nets_text_is_the_text_that_was_read { RewrittenOwes W.Wheel.K text.now buffer.old buffer.new (view W.Wheel net.new) (names_of sheet.new) result }
     ensures a_refused_text_changes_no_net { (fault : TextFault) → result ≡ Err (Read fault) → net.new ≡ net.old }
     ensures a_refused_text_changes_no_sheet { (fault : TextFault) → result ≡ Err (Read fault) → sheet.new ≡ sheet.old }
 {

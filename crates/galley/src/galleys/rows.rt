@@ -31,7 +31,7 @@ pub(super) fn first_refusing<W: Wheel>(cells: &[Cell<W>], shown: &[W]) -> Option
 // Turns each place by its turn for the style.
 pub(super) fn turn_all<W: Wheel>(cells: &[Cell<W>], shown: &mut Vec<W>)
     requires a_cell_for_each_place { length cells.now ≡ vec_len shown.old }
-    ensures each_place_turns { Turned W.Wheel.order (map (cell_of W.Wheel) cells.now) (map W.Wheel.number shown.old.items) (length cells.now) (map W.Wheel.number shown.new.items) }
+    ensures each_place_turns { Turned W.Wheel.K (map (cell_of W.Wheel) cells.now) (map W.Wheel.number shown.old.items) (length cells.now) (map W.Wheel.number shown.new.items) }
     ensures as_many_places_as_before { vec_len shown.new ≡ vec_len shown.old }
 {
     for (place, cell) in cells.iter().enumerate() {

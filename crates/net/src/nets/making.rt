@@ -28,7 +28,7 @@ impl<W: Wheel> Net<W> {
     pub fn idle(heap: Global, styles: usize, places: usize) -> Result<Net<W>, NetError>
         ensures made_idle_or_refused_past_a_limit { IdleOwes W.Wheel styles places result }
     {
-        if styles < 1 || styles > STYLE_LIMIT {
+        if !(1..=STYLE_LIMIT).contains(&styles) {
             return Err(NetError::StyleCount(styles));
         }
         if places > PLACE_LIMIT {

@@ -36,11 +36,7 @@ impl<W: Wheel> Net<W> {
     pub fn cell(&self, place: usize, style: usize) -> Option<Cell<W>>
         ensures is_the_cell { MatchOption result ((place < length (view W.Wheel self.now).places) × (style < (view W.Wheel self.now).styles) → ⊥) (λ c. (place < length (view W.Wheel self.now).places) × (style < (view W.Wheel self.now).styles) × (cell_of W.Wheel c ≡ cell_for (place_number (view W.Wheel self.now) place) style)) }
     {
-        let places = self.starts.len();
-        if place >= places || style >= self.styles {
-            return None;
-        }
-        Some(self.cells[style * places + place])
+        self.cells_for(style)?.get(place).copied()
     }
 
     // The cells of all places for one style, if there is such a style.

@@ -14,7 +14,7 @@ returns-in_err-read g c =
     let count : length read ≡ style = length-map (take style items) (cell_of g.W.Wheel) ∙ length-take-le style items (omega (arith, c.loop-style.cells.ok.0, c.loop-style.invariant.1)) in
     rw c.from_residual.ensures
     record {
-      reads_every_cell = no_cells g.W.Wheel.order _ read c.args.bytes.now c.loop-style.rest.now (omega (arith, count)) c.loop-style.invariant.0 c.in_err-read.ensures.reads_a_cell_of_the_wheel;
+      reads_every_cell = no_cells g.W.Wheel.K _ read c.args.bytes.now c.loop-style.rest.now (omega (arith, count)) c.loop-style.invariant.0 c.in_err-read.ensures.reads_a_cell_of_the_wheel;
       as_many_cells_as_before = c.loop-style.invariant.1;
     }
 

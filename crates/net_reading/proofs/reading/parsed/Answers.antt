@@ -53,8 +53,8 @@ returns-in_err-rest-2 g c =
     record {
       reads_the_net_or_tells_the_first_fault =
           places_fault three (names_formed c.read_names.new.sheet) names.0 names.1 counted c.in_err-rest-2.field-0.0
-          (subst (λ q. PlacesBreak w.order c.in_ok-styles.styles q c.in_ok-places.rest.now c.in_err-rest-2.field-0.0) places
-          (subst (λ n. PlacesBreak w.order n (length (view w c.in_ok-net.net).places) c.in_ok-places.rest.now c.in_err-rest-2.field-0.0) styles
+          (subst (λ q. PlacesBreak w.K c.in_ok-styles.styles q c.in_ok-places.rest.now c.in_err-rest-2.field-0.0) places
+          (subst (λ n. PlacesBreak w.K n (length (view w c.in_ok-net.net).places) c.in_ok-places.rest.now c.in_err-rest-2.field-0.0) styles
           c.in_err-rest-2.ensures.reads_every_place_or_tells_where_they_break_off));
     }
 
@@ -74,7 +74,7 @@ returns-in_err-read_end g c =
     record {
       reads_the_net_or_tells_the_first_fault =
           end_fault three (names_formed c.read_names.new.sheet) names.0 names.1 counted
-          (subst (λ n. PlacesOpen w.order n c.in_ok-places.rest.now (view w c.read_places.new.net).places c.in_ok-rest-2.rest.now) styles read.2)
+          (subst (λ n. PlacesOpen w.K n c.in_ok-places.rest.now (view w c.read_places.new.net).places c.in_ok-rest-2.rest.now) styles read.2)
           (read.1 ∙ places)
           c.in_err-read_end.field-0.0
           (subst (λ l. NoEnd l c.in_ok-rest-2.rest.now c.in_err-read_end.field-0.0) end_line c.in_err-read_end.ensures.at_the_end_or_faulty);
@@ -91,11 +91,11 @@ returns g c =
     let places = idle_places w c.in_ok-net.net _ _ _ idle c.from.ensures in
     let read = c.in_ok-rest-2.ensures.reads_every_place_or_tells_where_they_break_off in
     let whole = whole_text three (names_formed c.read_names.new.sheet) names.0 names.1 counted
-    (subst (λ n. PlacesOpen w.order n c.in_ok-places.rest.now (view w c.read_places.new.net).places c.in_ok-rest-2.rest.now) styles read.2)
+    (subst (λ n. PlacesOpen w.K n c.in_ok-places.rest.now (view w c.read_places.new.net).places c.in_ok-rest-2.rest.now) styles read.2)
     (read.1 ∙ places) c.in_ok-read_end.ensures.at_the_end_or_faulty in
     record {
       reads_the_net_or_tells_the_first_fault = (
         names.0 ∙ sym (read.0 ∙ styles),
-        whole ∙ ap (λ n. net_text (net_read w.order n (view w c.read_places.new.net).places) (names_of c.read_names.new.sheet)) (sym (read.0 ∙ styles)),
+        whole ∙ ap (λ n. net_text (net_read w.K n (view w c.read_places.new.net).places) (names_of c.read_names.new.sheet)) (sym (read.0 ∙ styles)),
       );
     }

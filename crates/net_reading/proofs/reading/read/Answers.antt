@@ -17,8 +17,8 @@ returns-in_err-net_read g c =
     rw (p.1, p.2)
     record {
       the_net_read_has_that_text = first;
-      refused_by_the_number_and_values_of_the_first_fault = refused_by g.W.Wheel.order c.args.text.now c.in_err-net_read.field-0.0 first;
-      refused_exactly_where_it_is_no_net_text = refused_exactly g.W.Wheel.order c.args.text.now c.in_err-net_read.field-0.0 first;
+      refused_by_the_number_and_values_of_the_first_fault = refused_by g.W.Wheel.K c.args.text.now c.in_err-net_read.field-0.0 first;
+      refused_exactly_where_it_is_no_net_text = refused_exactly g.W.Wheel.K c.args.text.now c.in_err-net_read.field-0.0 first;
       refused_calls_change_no_net = λ _. refl;
       refused_calls_change_no_sheet = λ _. refl;
     }

@@ -75,8 +75,8 @@ returns-in-None g c =
     let none : NoneRefuses cells values (length cells) =
     subst (NoneRefuses cells values) long
     (subst (λ shown. NoneRefuses cells (map w.number shown) (length c.in-Some.cells.now)) c.as_slice.ensures.value c.in-None.ensures.is_the_first) in
-    let turned : Turned w.order cells values (length cells) (map w.number (vec_items c.turn_all.new.shown)) =
-    subst (λ n. Turned w.order cells values n (map w.number (vec_items c.turn_all.new.shown))) long c.turn_all.ensures.each_place_turns in
+    let turned : Turned w.K cells values (length cells) (map w.number (vec_items c.turn_all.new.shown)) =
+    subst (λ n. Turned w.K cells values n (map w.number (vec_items c.turn_all.new.shown))) long c.turn_all.ensures.each_place_turns in
     record {
       answers_as_owed = λ run so. accepted (row_accepts net run style cells values row so.showing known none);
       has_set_the_run_after = λ run so.

@@ -31,8 +31,8 @@ loop-step-preserved g c =
     subst (NoneRefuses cells (map w.number now)) long
     (subst (λ shown. NoneRefuses cells (map w.number shown) (length found)) c.as_slice.ensures.value
     (none_case c.first_refusing.result _ _ c.first_refusing.ensures.is_the_first (sym c.if-is_some.ensures))) in
-    let turned : Turned w.order cells (map w.number now) (length cells) (map w.number next) =
-    subst (λ n. Turned w.order cells (map w.number now) n (map w.number next)) long c.turn_all.ensures.each_place_turns in (
+    let turned : Turned w.K cells (map w.number now) (length cells) (map w.number next) =
+    subst (λ n. Turned w.K cells (map w.number now) n (map w.number next)) long c.turn_all.ensures.each_place_turns in (
       going_more w net c.args.saved.now run now step c.loop-step.invariant.0 c.loop-step-test.true cells row (proper g.W.Wheel (lawful g) net) (number_below g.W.Wheel (lawful g) now) (c.requires.styles_known step c.loop-step-test.true) next none turned,
       c.turn_all.ensures.as_many_places_as_before ∙ c.loop-step.invariant.1,
     )

@@ -8,7 +8,7 @@ use Rattle.net.proofs.nets.Net.idle.Goals as goal
 pub returns : goal.returns
 returns g c =
     let w = g.W.Wheel in
-    let zero_is : w.number c.from_digit-zero.result ≡ 0 = c.from_digit-zero.ensures.stands_for_the_remainder ∙ zero-mod w.order in
+    let zero_is : w.number c.from_digit-zero.result ≡ 0 = c.from_digit-zero.ensures.stands_for_the_remainder ∙ zero-mod w.K in
     let idle_is : cell_of w c.untested.result ≡ idle =
     ap₂ (λ o t. record { wanted = option_map w.number o; turn = w.number t }) c.untested.ensures.tests_nothing c.untested.ensures.turns_as_told
     ∙ ap (λ t. record { wanted = Rattle.std.specs.declared.option.Option.TheVariants.None; turn = t }) zero_is in
