@@ -1,17 +1,16 @@
 -- The number of each refusal, and the values that come with it. Assumes nothing.
 use Rattle.std.specs.Prelude.{ℕ, List, [], ◌∷◌, ◌++◌, Ok, Err, Result}
+use Rattle.std.specs.declared.alloc.AllocError.{AllocError}
 use Rattle.theory.specs.Outcomes.{Outcome, done, refused}
 use Rattle.galley.specs.declared.galleys.refusals.SetRefusal.{SetRefusal}
 use Rattle.galley.specs.declared.galleys.refusals.SetRefusal.TheVariants.{UnknownStyle, PlaceRefuses}
-use Rattle.galley.specs.declared.galleys.refusals.StandRefusal.{StandRefusal}
-use Rattle.galley.specs.declared.galleys.refusals.StandRefusal.TheVariants.{OutOfMemory}
 use Rattle.galley.specs.declared.galleys.refusals.TryRefusal.{TryRefusal}
 use Rattle.galley.specs.declared.galleys.refusals.TryRefusal.TheVariants.{RunTooLong, UnknownStyle as UnknownStep}
 
 -- want of memory has no number among the refusals proper; 99 stands for it where a number is written
-abbrev pub stand_outcome : {A : Type 0} → Result A StandRefusal → Outcome A
+abbrev pub stand_outcome : {A : Type 0} → Result A AllocError → Outcome A
 stand_outcome (Ok x) = done x
-stand_outcome (Err OutOfMemory) = refused 99 []
+stand_outcome (Err _) = refused 99 []
 
 abbrev pub set_outcome : {A : Type 0} → Result A SetRefusal → Outcome (Unit {0})
 set_outcome (Ok x) = done tt

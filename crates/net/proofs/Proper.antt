@@ -4,18 +4,13 @@ use Rattle.std.proofs.lemmas.List.FromFn.{length-map-range_with_len, get_or-map-
 use Rattle.std.specs.Option.{option_map}
 use Rattle.theory.specs.Nets.{Proper}
 use Rattle.theory.specs.Places.{CellOn, PlaceOn}
+use Rattle.wheel.specs.Laws.{WheelLaws}
 use Rattle.wheel.specs.declared.turning.Wheel.{Ghosts}
 use Rattle.net.specs.Views.{idle, cell_of, cell_at, place_at, view}
 use Rattle.net.specs.declared.cells.Cell.{Cell}
 use Rattle.net.specs.declared.nets.Net.{Net}
 use Rattle.net.proofs.ByStyle.{row_room}
 use Rattle.net.proofs.Views.{laid_places, laid_place}
-
--- what the laws of the trait say of a wheel
-pub record Lawful {W : Type 0} (w : Ghosts W) : Type 0 where
-  pub from_two : 2 ≤ w.K
-  pub to_nine : w.K ≤ 9
-  pub below : (x : W) → w.number x < w.K
 
 module _ {W : Type 0} (w : Ghosts W) where
   -- the number of places, as the code counts it
@@ -31,22 +26,22 @@ module _ {W : Type 0} (w : Ghosts W) where
   row_within net style p cells below count e =
       row_room net.styles p style (length cells) below (ap length e ∙ cells_counted net ∙ ap (λ z. net.styles * z) (sym (count ∙ net.starts.ok.0)))
 
-  module _ (laws : Lawful w) where
+  module _ (laws : WheelLaws w.K w.number) where
     pub number_below : (xs : List W) (i : ℕ) → get_or (map w.number xs) i 0 < w.K
-    number_below [] i = omega (arith, laws.from_two)
-    number_below (x ∷ xs) zero = laws.below x
+    number_below [] i = omega (arith, laws.at_least_two)
+    number_below (x ∷ xs) zero = laws.numbers_are_below_the_order x
     number_below (x ∷ xs) (suc i) = number_below xs i
 
     wanted_below : (o : Option W) (v : ℕ) → option_map w.number o ≡ Some v → v < w.K
     wanted_below None v e = let never : ◌≡◌ {A = ℕ} 0 1 = cc in absurd (omega arith)
-    wanted_below (Some x) v e = let same : w.number x ≡ v = cc in subst (λ z. z < w.K) same (laws.below x)
+    wanted_below (Some x) v e = let same : w.number x ≡ v = cc in subst (λ z. z < w.K) same (laws.numbers_are_below_the_order x)
 
     cell_below : (cs : List (Cell W)) (j : ℕ) → CellOn w.K (get_or (map (cell_of w) cs) j idle)
     cell_below [] j = record {
-      turn_below = omega (arith, laws.from_two);
+      turn_below = omega (arith, laws.at_least_two);
       wanted_below = λ v e. let never : ◌≡◌ {A = ℕ} 0 1 = cc in absurd (omega arith);
     }
-    cell_below (c ∷ cs) zero = record { turn_below = laws.below c.turn; wanted_below = wanted_below c.wanted }
+    cell_below (c ∷ cs) zero = record { turn_below = laws.numbers_are_below_the_order c.turn; wanted_below = wanted_below c.wanted }
     cell_below (c ∷ cs) (suc j) = cell_below cs j
 
     place_good : (n : ℕ) (starts : List W) (cells : List (Cell W)) (i : ℕ) → PlaceOn w.K n (place_at w n starts cells i)
@@ -61,8 +56,8 @@ module _ {W : Type 0} (w : Ghosts W) where
     proper net =
         let places = places_counted net in
         record {
-          order_from_two = laws.from_two;
-          order_to_nine = laws.to_nine;
+          order_from_two = laws.at_least_two;
+          order_to_nine = laws.at_most_nine;
           some_style = net.some_style;
           few_styles = net.few_styles;
           few_places = omega (arith, net.few_places);

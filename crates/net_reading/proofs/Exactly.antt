@@ -6,8 +6,9 @@ use Rattle.lines.specs.declared.faults.TextFault.TheVariants.{Line, TooLong, Oth
 use Rattle.texts.specs.Faults as F
 use Rattle.texts.specs.NetText.{IsNetText, net_text}
 use Rattle.texts.proofs.OneFault.{not_both}
+use Rattle.wheel.specs.Laws.{WheelLaws}
 use Rattle.wheel.specs.declared.turning.Wheel.{Ghosts}
-use Rattle.net.proofs.Proper.{Lawful, proper}
+use Rattle.net.proofs.Proper.{proper}
 use Rattle.net.specs.Views.{view}
 use Rattle.net.specs.declared.nets.Net.{Net}
 use Rattle.sheet.proofs.Proper.{names_formed}
@@ -21,7 +22,7 @@ refused_exactly k text (TooLong bytes) first = λ is. not_both k text (F.over_lo
 refused_exactly k text (OtherWheel wheel) first = λ is. not_both k text (F.other_wheel wheel) is first
 refused_exactly k text OutOfMemory first = tt
 
-pub accepted_exactly : {W : Type 0} (w : Ghosts W) → Lawful w → (text : List ℕ) (net : Net W w) (sheet : Sheet) → length (names_of sheet) ≡ (view w net).styles → text ≡ net_text (view w net) (names_of sheet) → IsNetText w.K text
+pub accepted_exactly : {W : Type 0} (w : Ghosts W) → WheelLaws w.K w.number → (text : List ℕ) (net : Net W w) (sheet : Sheet) → length (names_of sheet) ≡ (view w net).styles → text ≡ net_text (view w net) (names_of sheet) → IsNetText w.K text
 accepted_exactly w laws text net sheet count is = (
   view w net,
   names_of sheet,

@@ -6,8 +6,9 @@ use Rattle.lines.specs.declared.faults.TextFault.{TextFault}
 use Rattle.lines.specs.declared.faults.TextFault.TheVariants.{Line, TooLong, OtherWheel, OutOfMemory}
 use Rattle.texts.proofs.Restored.{restored}
 use Rattle.texts.specs.NetText.{IsNetText, Named, net_text}
+use Rattle.wheel.specs.Laws.{WheelLaws}
 use Rattle.wheel.specs.declared.turning.Wheel.{Ghosts}
-use Rattle.net.proofs.Proper.{Lawful, proper}
+use Rattle.net.proofs.Proper.{proper}
 use Rattle.net.specs.Views.{view}
 use Rattle.net.specs.declared.nets.Net.{Net}
 use Rattle.sheet.proofs.Proper.{names_formed}
@@ -27,7 +28,7 @@ out_of_memory k text (TooLong bytes) is never = absurd (never is)
 out_of_memory k text (OtherWheel wheel) is never = absurd (never is)
 out_of_memory k text OutOfMemory is never = refl
 
-module _ {W : Type 0} (w : Ghosts W) (laws : Lawful w) where
+module _ {W : Type 0} (w : Ghosts W) (laws : WheelLaws w.K w.number) where
   named : (net : Net W w) (sheet : Sheet) → length (names_of sheet) ≡ (view w net).styles → Named (view w net) (names_of sheet)
   named net sheet count = record { proper = proper w laws net; sheet = names_formed sheet; one_name_each = count }
 

@@ -17,11 +17,7 @@ impl Wheel for Four {
 
     ghost number = { λ x. x.value };
 
-    ghost at_least_two = { Prim.search rules };
-
-    ghost at_most_nine = { Prim.search rules };
-
-    ghost numbers_are_below_the_order = { Prim.grind arith };
+    ghost laws = { Prim.search (rules, arith) };
 
     fn from_digit(digit: u8) -> Four {
         Four { value: digit % 4 }

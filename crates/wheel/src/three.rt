@@ -37,11 +37,7 @@ impl Wheel for Three {
 
     ghost number = { λ x. residue x.value };
 
-    ghost at_least_two = { Prim.search rules };
-
-    ghost at_most_nine = { Prim.search rules };
-
-    ghost numbers_are_below_the_order = { Prim.grind arith };
+    ghost laws = { Prim.search (rules, arith) };
 
     fn from_digit(digit: u8) -> Three {
         match digit % 3 {

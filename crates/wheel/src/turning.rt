@@ -1,5 +1,6 @@
 // A wheel has k positions, k from 2 to 9, and each position stands for one number below k: the integers modulo k.
-ghost use Rattle.std.specs.Prelude.{◌≡◌, ℕ, ◌+◌, ◌-◌, ◌%◌, ◌<◌, ◌≤◌, true};
+ghost use Rattle.wheel.specs.Laws.{WheelLaws};
+ghost use Rattle.std.specs.Prelude.{◌≡◌, ℕ, ◌+◌, ◌-◌, ◌%◌, true};
 
 // A value is one position of the wheel. Two values may stand for one number.
 pub trait Wheel: Copy {
@@ -39,9 +40,6 @@ pub trait Wheel: Copy {
     fn same(self, other: Self) -> bool
         ensures yes_exactly_for_one_number { (result ≡ true → number self ≡ number other) × (number self ≡ number other → result ≡ true) };
 
-    ghost at_least_two: { 2 ≤ K };
-
-    ghost at_most_nine: { K ≤ 9 };
-
-    ghost numbers_are_below_the_order: { (x : Self) → number x < K };
+    // k is from 2 to 9, and every number is below k.
+    ghost laws: { WheelLaws K number };
 }

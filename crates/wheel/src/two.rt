@@ -1,6 +1,6 @@
 // The wheel of two, kept as a bit.
 ghost use Rattle.std.specs.Prelude.{if◌then◌else◌};
-ghost use Rattle.std.proofs.Common.{rules};
+ghost use Rattle.std.proofs.Common.{rules, arith};
 
 use crate::dividing::DividingWheel;
 use crate::turning::Wheel;
@@ -18,11 +18,7 @@ impl Wheel for Two {
     // A set bit stands for 1.
     ghost number = { λ x. (if x.bit then 1 else 0) };
 
-    ghost at_least_two = { Prim.search rules };
-
-    ghost at_most_nine = { Prim.search rules };
-
-    ghost numbers_are_below_the_order = { Prim.search rules };
+    ghost laws = { Prim.search (rules, arith) };
 
     fn from_digit(digit: u8) -> Two {
         Two {

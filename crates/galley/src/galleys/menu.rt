@@ -14,22 +14,19 @@ impl<W: Wheel> Galley<'_, W> {
         ensures offers_exactly_what_is_enabled { Offers (Enabled (test_and_flip (net_of W.Wheel self.now)) (marking W.Wheel self.now)) result }
     {
         let mut menu = 0u16;
-        let mut style = 0;
-        while let Some(cells) = self.net.cells_for(style) {
-            let mut place = 0;
-            let refusing = loop {
-                if place >= cells.len() {
-                    break None;
+        for style in 0..self.net.styles() {
+            let cells = self.net.cells_for(style).unwrap();
+            let refusing = 'first: {
+                for (place, cell) in cells.iter().enumerate() {
+                    if cell.missed(self.shown[place]).is_some() {
+                        break 'first Some(place);
+                    }
                 }
-                if cells[place].missed(self.shown[place]).is_some() {
-                    break Some(place);
-                }
-                place += 1;
+                None
             };
             if refusing.is_none() {
                 menu |= 1 << style;
             }
-            style += 1;
         }
         menu
     }

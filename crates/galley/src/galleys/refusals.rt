@@ -1,22 +1,4 @@
 // Why a call on a galley was refused.
-ghost use Rattle.galley.specs.declared.galleys.refusals.StandRefusal.TheVariants.{OutOfMemory};
-ghost use Rattle.std.specs.Prelude.{◌≡◌};
-
-use std::alloc::AllocError;
-
-#[derive(Debug, Drop)]
-pub enum StandRefusal {
-    OutOfMemory,
-}
-
-impl From<AllocError> for StandRefusal {
-    ghost from_gives = { λ _ r. r ≡ OutOfMemory };
-
-    fn from(_e: AllocError) -> StandRefusal {
-        StandRefusal::OutOfMemory
-    }
-}
-
 // A place that refuses a style, what it shows and what it wants.
 #[derive(Clone, Copy, Debug)]
 pub struct Refusing {

@@ -4,6 +4,8 @@ ghost use Rattle.std.specs.Prelude.{◌≡◌, length, vec_len};
 use wheel::turning::Wheel;
 
 // While it lives, the shown values are changed through it; when it ends, they are the saved ones again.
+// A slice in place of the vector was tried: the proof of `longest_prefix` does not close, since it loses sight of a slice
+// that is lent from the guard in a loop.
 pub struct Restoring<'a, W: Wheel> {
     pub shown: &'a mut Vec<W>,
     pub saved: &'a [W],
@@ -16,6 +18,6 @@ impl<W: Wheel> Drop for Restoring<'_, W> {
         ensures as_many_as_before { vec_len self.exit.0.now ≡ vec_len self.entry.shown.now }
     {
         let Restoring { shown, saved } = self;
-        shown.as_mut_slice().copy_from_slice(saved);
+        shown.copy_from_slice(saved);
     }
 }

@@ -23,7 +23,7 @@ impl<W: Wheel> Galley<'_, W> {
         let Some(cells) = self.net.cells_for(usize::from(style)) else {
             return Err(SetRefusal::UnknownStyle);
         };
-        match first_refusing(cells, self.shown.as_slice()) {
+        match first_refusing(cells, &self.shown) {
             Some(refusing) => Err(SetRefusal::PlaceRefuses(refusing)),
             None => {
                 turn_all(cells, &mut self.shown);

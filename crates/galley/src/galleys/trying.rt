@@ -21,12 +21,7 @@ use wheel::turning::Wheel;
 fn first_unknown(run: &[u8], styles: usize) -> Option<usize>
     ensures is_the_first { MatchOption result (StylesBelow styles run.now) (FirstUnknown styles run.now) }
 {
-    for (step, style) in run.iter().enumerate() {
-        if usize::from(*style) >= styles {
-            return Some(step);
-        }
-    }
-    None
+    run.iter().position(|style| usize::from(*style) >= styles)
 }
 
 // How many styles of the run can be set, one after the other; the shown values are then as before.
@@ -41,10 +36,8 @@ fn longest_prefix<W: Wheel>(net: &Net<W>, shown: &mut Vec<W>, saved: &[W], run: 
 {
     let guard = Restoring { shown, saved };
     for (step, style) in run.iter().enumerate() {
-        let Some(cells) = net.cells_for(usize::from(*style)) else {
-            return step;
-        };
-        if first_refusing(cells, guard.shown.as_slice()).is_some() {
+        let cells = net.cells_for(usize::from(*style)).unwrap();
+        if first_refusing(cells, guard.shown).is_some() {
             return step;
         }
         turn_all(cells, guard.shown);
@@ -68,9 +61,7 @@ impl<W: Wheel> Galley<'_, W> {
         if let Some(step) = first_unknown(run, self.net.styles()) {
             return Err(TryRefusal::UnknownStyle(step));
         }
-        self.saved
-            .as_mut_slice()
-            .copy_from_slice(self.shown.as_slice());
-        Ok(longest_prefix(self.net, &mut self.shown, self.saved.as_slice(), run))
+        self.saved.copy_from_slice(&self.shown);
+        Ok(longest_prefix(self.net, &mut self.shown, &self.saved, run))
     }
 }

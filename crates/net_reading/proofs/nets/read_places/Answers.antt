@@ -3,7 +3,7 @@ use Rattle.std.proofs.lemmas.Result.{err_from_is_err_and}
 use Rattle.std.proofs.lemmas.Option.{MatchOption-at_none, MatchOption-at_some}
 use Rattle.lines.proofs.Refused.{refused, allowed}
 use Rattle.lines.specs.declared.faults.Cause.TheVariants.{Form}
-use Rattle.net.proofs.Proper.{Lawful, proper}
+use Rattle.net.proofs.Proper.{proper}
 use Rattle.net.specs.Views.{view}
 use Rattle.net_reading.proofs.SoFar.{place_more, places_break, places_all}
 use Rattle.net_reading.proofs.nets.read_places.Given as given
@@ -14,13 +14,13 @@ lawful g = let laws = g.met.W.Wheel in record { from_two = laws.at_least_two; to
 
 pub overflow_add-len-in-loop-place : goal.overflow_add-len-in-loop-place
 overflow_add-len-in-loop-place g c =
-    let good = proper g.W.Wheel (lawful g) c.args.net.now in
+    let good = proper g.W.Wheel g.met.W.Wheel.laws c.args.net.now in
     let small : 5 + c.len.result + c.loop-place.place < 1000 = omega (arith, good.few_styles, good.few_places, c.loop-place.invariant.one_cell_each, c.place_line.ensures.as_many_cells_as_before) in
     search rules
 
 pub overflow_cast-len : goal.overflow_cast-len
 overflow_cast-len g c =
-    let good = proper g.W.Wheel (lawful g) c.args.net.now in
+    let good = proper g.W.Wheel g.met.W.Wheel.laws c.args.net.now in
     let small : 5 + c.len.result + c.loop-place.place < 1000 = omega (arith, good.few_styles, good.few_places, c.loop-place.invariant.one_cell_each, c.place_line.ensures.as_many_cells_as_before) in
     search rules
 
@@ -31,7 +31,7 @@ returns-in_err-start g c =
     rw (p.1, p.2)
     record {
       reads_every_place_or_tells_where_they_break_off =
-          places_break c.loop-place.invariant (proper g.W.Wheel (lawful g) c.loop-place.net) refl c.in_err-start.field-0.0 (omega (arith, c.places-place-end.ensures.counts_the_places))
+          places_break c.loop-place.invariant (proper g.W.Wheel g.met.W.Wheel.laws c.loop-place.net) refl c.in_err-start.field-0.0 (omega (arith, c.places-place-end.ensures.counts_the_places))
           (MatchOption-at_none _ _ none.0 c.place_line.ensures.reads_a_places_line)
           (none.1 ∙ ap (λ (n : ℕ). record { line = 5 + n + c.loop-place.place; cause = Form }) (c.len.ensures ∙ c.place_line.ensures.as_many_cells_as_before));
     }
@@ -52,5 +52,5 @@ returns g c =
     let so_far = c.loop-place.invariant in
     let all : c.loop-place.place ≡ length (view g.W.Wheel c.args.net.now).places = omega (arith, c.places-place-end.ensures.counts_the_places) in
     record {
-      reads_every_place_or_tells_where_they_break_off = (so_far.as_many_styles, so_far.as_many_places, places_all so_far (proper g.W.Wheel (lawful g) c.loop-place.net) refl all);
+      reads_every_place_or_tells_where_they_break_off = (so_far.as_many_styles, so_far.as_many_places, places_all so_far (proper g.W.Wheel g.met.W.Wheel.laws c.loop-place.net) refl all);
     }

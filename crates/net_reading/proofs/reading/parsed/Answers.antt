@@ -2,7 +2,6 @@ use Rattle.std.proofs.Common.{◌≡◌, ◌+◌, length, sym, ap, ◌∙◌, su
 use Rattle.lines.proofs.Refused.{refused, allowed}
 use Rattle.std.proofs.lemmas.Result.{err_from_is_err_and}
 use Rattle.std.proofs.lemmas.Option.{MatchOption-at_none, MatchOption-at_some}
-use Rattle.net.proofs.Proper.{Lawful}
 use Rattle.net.specs.Views.{view}
 use Rattle.sheet.proofs.Proper.{names_formed}
 use Rattle.sheet.specs.Views.{names_of}
@@ -21,7 +20,7 @@ lawful g = let laws = g.met.W.Wheel in record { from_two = laws.at_least_two; to
 pub returns-in_err-rest : goal.returns-in_err-rest
 returns-in_err-rest g c =
     let p = err_from_is_err_and c.from_residual-in_err-rest.result c.from_residual-in_err-rest.ensures.1 in
-    let three = three_read g.W.Wheel (lawful g) c.positions.result c.in_ok-styles.styles c.args.text.now c.in_ok-styles.rest.now c.positions.ensures.is_the_order c.in_ok-styles.ensures.reads_three_lines_or_tells_the_first_fault in
+    let three = three_read g.W.Wheel g.met.W.Wheel.laws c.positions.result c.in_ok-styles.styles c.args.text.now c.in_ok-styles.rest.now c.positions.ensures.is_the_order c.in_ok-styles.ensures.reads_three_lines_or_tells_the_first_fault in
     rw (p.1, p.2)
     record {
       reads_the_net_or_tells_the_first_fault = names_fault three c.in_err-rest.field-0.0 c.in_err-rest.ensures.reads_every_name_or_tells_where_they_break_off;
@@ -31,7 +30,7 @@ pub returns-in_err-places : goal.returns-in_err-places
 returns-in_err-places g c =
     let p = err_from_is_err_and c.from_residual-in_err-places.result c.from_residual-in_err-places.ensures.1 in
     let none = refused _ _ _ c.in_err-places.ensures.value in
-    let three = three_read g.W.Wheel (lawful g) c.positions.result c.in_ok-styles.styles c.args.text.now c.in_ok-styles.rest.now c.positions.ensures.is_the_order c.in_ok-styles.ensures.reads_three_lines_or_tells_the_first_fault in
+    let three = three_read g.W.Wheel g.met.W.Wheel.laws c.positions.result c.in_ok-styles.styles c.args.text.now c.in_ok-styles.rest.now c.positions.ensures.is_the_order c.in_ok-styles.ensures.reads_three_lines_or_tells_the_first_fault in
     let names = c.in_ok-rest.ensures.reads_every_name_or_tells_where_they_break_off in
     rw (p.1, p.2)
     record {
@@ -43,7 +42,7 @@ pub returns-in_err-rest-2 : goal.returns-in_err-rest-2
 returns-in_err-rest-2 g c =
     let w = g.W.Wheel in
     let p = err_from_is_err_and c.from_residual-in_err-rest-2.result c.from_residual-in_err-rest-2.ensures.1 in
-    let three = three_read w (lawful g) c.positions.result c.in_ok-styles.styles c.args.text.now c.in_ok-styles.rest.now c.positions.ensures.is_the_order c.in_ok-styles.ensures.reads_three_lines_or_tells_the_first_fault in
+    let three = three_read w g.met.W.Wheel.laws c.positions.result c.in_ok-styles.styles c.args.text.now c.in_ok-styles.rest.now c.positions.ensures.is_the_order c.in_ok-styles.ensures.reads_three_lines_or_tells_the_first_fault in
     let names = c.in_ok-rest.ensures.reads_every_name_or_tells_where_they_break_off in
     let counted = MatchOption-at_some _ _ _ (allowed _ _ _ c.in_ok-places.ensures.value) c.keyed_number.ensures.reads_a_number_after_the_key in
     let idle = c.in_ok-net.ensures.made_idle_or_out_of_memory in
@@ -62,7 +61,7 @@ pub returns-in_err-read_end : goal.returns-in_err-read_end
 returns-in_err-read_end g c =
     let w = g.W.Wheel in
     let p = err_from_is_err_and c.from_residual-in_err-read_end.result c.from_residual-in_err-read_end.ensures.1 in
-    let three = three_read w (lawful g) c.positions.result c.in_ok-styles.styles c.args.text.now c.in_ok-styles.rest.now c.positions.ensures.is_the_order c.in_ok-styles.ensures.reads_three_lines_or_tells_the_first_fault in
+    let three = three_read w g.met.W.Wheel.laws c.positions.result c.in_ok-styles.styles c.args.text.now c.in_ok-styles.rest.now c.positions.ensures.is_the_order c.in_ok-styles.ensures.reads_three_lines_or_tells_the_first_fault in
     let names = c.in_ok-rest.ensures.reads_every_name_or_tells_where_they_break_off in
     let counted = MatchOption-at_some _ _ _ (allowed _ _ _ c.in_ok-places.ensures.value) c.keyed_number.ensures.reads_a_number_after_the_key in
     let idle = c.in_ok-net.ensures.made_idle_or_out_of_memory in
@@ -83,7 +82,7 @@ returns-in_err-read_end g c =
 pub returns : goal.returns
 returns g c =
     let w = g.W.Wheel in
-    let three = three_read w (lawful g) c.positions.result c.in_ok-styles.styles c.args.text.now c.in_ok-styles.rest.now c.positions.ensures.is_the_order c.in_ok-styles.ensures.reads_three_lines_or_tells_the_first_fault in
+    let three = three_read w g.met.W.Wheel.laws c.positions.result c.in_ok-styles.styles c.args.text.now c.in_ok-styles.rest.now c.positions.ensures.is_the_order c.in_ok-styles.ensures.reads_three_lines_or_tells_the_first_fault in
     let names = c.in_ok-rest.ensures.reads_every_name_or_tells_where_they_break_off in
     let counted = MatchOption-at_some _ _ _ (allowed _ _ _ c.in_ok-places.ensures.value) c.keyed_number.ensures.reads_a_number_after_the_key in
     let idle = c.in_ok-net.ensures.made_idle_or_out_of_memory in

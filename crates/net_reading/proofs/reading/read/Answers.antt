@@ -1,5 +1,4 @@
 use Rattle.std.proofs.Common.{refl}
-use Rattle.net.proofs.Proper.{Lawful}
 use Rattle.std.proofs.lemmas.Result.{err_from_is_err_and}
 use Rattle.std.proofs.lemmas.Bool.{false≢true}
 use Rattle.net_reading.specs.Reading.{taken}
@@ -26,7 +25,7 @@ returns-in_err-net_read g c =
 pub returns : goal.returns
 returns g c =
     let read = c.in_ok-net_read.ensures.reads_the_net_or_tells_the_first_fault in
-    let is = accepted_exactly g.W.Wheel (lawful g) c.args.text.now c.in_ok-net_read.net_read c.in_ok-net_read.sheet_read read.0 read.1 in
+    let is = accepted_exactly g.W.Wheel g.met.W.Wheel.laws c.args.text.now c.in_ok-net_read.net_read c.in_ok-net_read.sheet_read read.0 read.1 in
     record {
       the_net_read_has_that_text = read;
       refused_by_the_number_and_values_of_the_first_fault = taken is;

@@ -1,5 +1,6 @@
 use Rattle.std.proofs.Common.{◌≡◌, ◌<◌, ◌≤◌, map, length, vec_items, sym, refl, ap, ◌∙◌, subst, arith}
-use Rattle.std.proofs.lemmas.List.{length-map}
+use Rattle.std.proofs.lemmas.List.{length-map, with_items_is}
+use Rattle.std.specs.Vec.{with_items}
 use Rattle.std.proofs.lemmas.Bool.{false≢true}
 use Rattle.theory.proofs.Firing.{accepts_fires, fires_accepts}
 use Rattle.theory.proofs.Owed.{owed_refusal}
@@ -9,13 +10,8 @@ use Rattle.galley.specs.Rows.{NoneRefuses, FirstRefuses, Turned}
 use Rattle.galley.specs.Galleys.{net_of}
 use Rattle.net.specs.Views.{cell_of, view}
 use Rattle.galley.proofs.Playing.{row_accepts, row_owes, row_turned, stands_next, turned_leads, refusing_disables}
-use Rattle.net.proofs.Proper.{Lawful, number_below, proper}
-use Rattle.galley.proofs.galleys.Galley.set.Given as given
+use Rattle.net.proofs.Proper.{number_below, proper}
 use Rattle.galley.proofs.galleys.Galley.set.Goals as goal
-
--- the wheel's laws
-lawful : (g : given.Over) → Lawful g.W.Wheel
-lawful g = let laws = g.met.W.Wheel in record { from_two = laws.at_least_two; to_nine = laws.at_most_nine; below = laws.numbers_are_below_the_order }
 
 pub returns-in_default : goal.returns-in_default
 returns-in_default g c =
@@ -26,7 +22,7 @@ returns-in_default g c =
       has_set_the_run_after = λ run so. so;
       accepts_exactly_what_fires = λ run so. (
         λ e. absurd (false≢true e),
-        λ fires. absurd (owed_refusal {run = run} (unknown_style past) (fires_accepts (net_of g.W.Wheel galley) (proper g.W.Wheel (lawful g) galley.net.now) run c.args.style fires)),
+        λ fires. absurd (owed_refusal {run = run} (unknown_style past) (fires_accepts (net_of g.W.Wheel galley) (proper g.W.Wheel g.met.W.Wheel.laws galley.net.now) run c.args.style fires)),
       );
       fires_in_the_shown_marking = (λ e. absurd (false≢true e), λ on. absurd (omega (arith, on.is_transition, past)));
       stands_on_the_same_net = refl;
@@ -39,12 +35,12 @@ returns-in-Some-first_refusing g c =
     let galley = c.args.self.now in
     let net = view w galley.net.now in
     let style = c.args.style in
-    let proper = proper g.W.Wheel (lawful g) galley.net.now in
+    let proper = proper g.W.Wheel g.met.W.Wheel.laws galley.net.now in
     let cells = map (cell_of w) c.in-Some.cells.now in
     let row : cells ≡ map (λ p. cell p style) net.places = c.in-Some.ensures.one_cell_for_each_place.row ∙ ap (λ s. map (λ p. cell p s) net.places) c.from.ensures in
     let known : style < net.styles = omega (arith, c.in-Some.ensures.one_cell_for_each_place.known, c.from.ensures) in
     let first : FirstRefuses cells (map w.number (vec_items galley.shown)) c.in-Some-first_refusing.refusing =
-    subst (λ values. FirstRefuses cells (map w.number values) c.in-Some-first_refusing.refusing) c.as_slice.ensures.value c.in-Some-first_refusing.ensures.is_the_first in
+    subst (λ values. FirstRefuses cells (map w.number values) c.in-Some-first_refusing.refusing) c.deref.ensures.value c.in-Some-first_refusing.ensures.is_the_first in
     record {
       answers_as_owed = λ run so. row_owes net run style cells (map w.number (vec_items galley.shown)) row so.showing known c.in-Some-first_refusing.refusing first;
       has_set_the_run_after = λ run so. so;
@@ -54,7 +50,7 @@ returns-in-Some-first_refusing g c =
       );
       fires_in_the_shown_marking = (
         λ e. absurd (false≢true e),
-        λ on. absurd (refusing_disables net style cells (map w.number (vec_items galley.shown)) row proper (number_below g.W.Wheel (lawful g) (vec_items galley.shown)) known c.in-Some-first_refusing.refusing first on),
+        λ on. absurd (refusing_disables net style cells (map w.number (vec_items galley.shown)) row proper (number_below g.W.Wheel g.met.W.Wheel.laws (vec_items galley.shown)) known c.in-Some-first_refusing.refusing first on),
       );
       stands_on_the_same_net = refl;
       refused_calls_change_nothing = λ e. refl;
@@ -66,7 +62,7 @@ returns-in-None g c =
     let galley = c.args.self.now in
     let net = view w galley.net.now in
     let style = c.args.style in
-    let proper = proper g.W.Wheel (lawful g) galley.net.now in
+    let proper = proper g.W.Wheel g.met.W.Wheel.laws galley.net.now in
     let cells = map (cell_of w) c.in-Some.cells.now in
     let values = map w.number (vec_items galley.shown) in
     let row : cells ≡ map (λ p. cell p style) net.places = c.in-Some.ensures.one_cell_for_each_place.row ∙ ap (λ s. map (λ p. cell p s) net.places) c.from.ensures in
@@ -74,20 +70,24 @@ returns-in-None g c =
     let long : length c.in-Some.cells.now ≡ length cells = sym (length-map c.in-Some.cells.now (cell_of w)) in
     let none : NoneRefuses cells values (length cells) =
     subst (NoneRefuses cells values) long
-    (subst (λ shown. NoneRefuses cells (map w.number shown) (length c.in-Some.cells.now)) c.as_slice.ensures.value c.in-None.ensures.is_the_first) in
-    let turned : Turned w.K cells values (length cells) (map w.number (vec_items c.turn_all.new.shown)) =
-    subst (λ n. Turned w.K cells values n (map w.number (vec_items c.turn_all.new.shown))) long c.turn_all.ensures.each_place_turns in
+    (subst (λ shown. NoneRefuses cells (map w.number shown) (length c.in-Some.cells.now)) c.deref.ensures.value c.in-None.ensures.is_the_first) in
+    let turned_row : Turned w.K cells values (length cells) (map w.number c.turn_all.new.shown) =
+    subst (λ n. Turned w.K cells values n (map w.number c.turn_all.new.shown)) long
+    (subst (λ before. Turned w.K cells (map w.number before) (length c.in-Some.cells.now) (map w.number c.turn_all.new.shown)) c.deref_mut.ensures.value c.turn_all.ensures.each_place_turns) in
+    let written = with_items_is galley.shown c.turn_all.new.shown (c.turn_all.ensures.as_many_places_as_before ∙ c.deref_mut.ensures.len) in
+    let next = vec_items (with_items galley.shown c.turn_all.new.shown) in
+    let turned : Turned w.K cells values (length cells) (map w.number next) = subst (λ after. Turned w.K cells values (length cells) (map w.number after)) (sym written) turned_row in
     record {
       answers_as_owed = λ run so. accepted (row_accepts net run style cells values row so.showing known none);
       has_set_the_run_after = λ run so.
-          stands_next w galley.net.now (vec_items galley.shown) (vec_items c.turn_all.new.shown) run style (row_accepts net run style cells values row so.showing known none) so
-          (row_turned net run style cells values row so.showing proper known (map w.number (vec_items c.turn_all.new.shown)) turned);
+          stands_next w galley.net.now (vec_items galley.shown) next run style (row_accepts net run style cells values row so.showing known none) so
+          (row_turned net run style cells values row so.showing proper known (map w.number next) turned);
       accepts_exactly_what_fires = λ run so. (
         λ e. accepts_fires net proper run style so.accepted (row_accepts net run style cells values row so.showing known none),
         λ fires. refl,
       );
       fires_in_the_shown_marking = (
-        λ e. turned_leads net style cells values row proper (number_below g.W.Wheel (lawful g) (vec_items galley.shown)) known none (map w.number (vec_items c.turn_all.new.shown)) turned,
+        λ e. turned_leads net style cells values row proper (number_below g.W.Wheel g.met.W.Wheel.laws (vec_items galley.shown)) known none (map w.number next) turned,
         λ on. refl,
       );
       stands_on_the_same_net = refl;

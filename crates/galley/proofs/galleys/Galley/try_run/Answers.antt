@@ -1,5 +1,4 @@
-use Rattle.std.proofs.Common.{length, sym, refl, ap, ◌∙◌, subst}
-use Rattle.std.proofs.lemmas.List.{with_items_is}
+use Rattle.std.proofs.Common.{sym, refl, ◌∙◌, subst}
 use Rattle.std.proofs.lemmas.Bool.{false≢true}
 use Rattle.theory.specs.Outcomes.{too_long, unknown_style, set_so_far, FirstUnknown}
 use Rattle.theory.specs.Positions.{Below}
@@ -29,12 +28,8 @@ returns-in-Some g c = record {
 pub longest_prefix-requires : goal.longest_prefix-requires
 longest_prefix-requires g c =
     let galley = c.args.self.now in
-    let copied = c.copy_from_slice.ensures.after ∙ c.as_slice.ensures.value in
     record {
-      saved_are_the_shown =
-          c.as_slice-2.ensures.value
-          ∙ with_items_is galley.saved c.copy_from_slice.new.self (ap length copied ∙ sym galley.shown.ok.0 ∙ sym galley.room_to_save)
-          ∙ copied;
+      saved_are_the_shown = c.deref-2.ensures.value ∙ c.copy_from_slice.ensures.items ∙ c.deref.ensures.value;
       one_value_each = galley.one_value_each;
       styles_known = subst (λ n. Below n c.args.run.now) c.styles.ensures.counts_the_styles c.in_default.ensures.is_the_first;
     }

@@ -11,11 +11,9 @@ loop-place-preserved g c =
     let w = g.W.Wheel in
     let i = c.loop-place.place in
     let cell = read_mapped (cell_of w) c.args.cells.now i c.index-cells-place.result idle (omega arith) c.index-cells-place.is in
-    let value = read_mapped w.number c.args.shown.now i c.index-shown-place.result 0 (omega arith) c.index-shown-place.is in (
-      omega arith,
-      below_more _ _ c.loop-place.invariant.1
-          (λ refuses. c.in_default.ensures.missed_exactly_where_unwanted (subst₂ Unwanted (ap (λ x. x.wanted) cell) value refuses)),
-    )
+    let value = read_mapped w.number c.args.shown.now i c.index-shown-place.result 0 (omega arith) c.index-shown-place.is in
+    below_more _ _ c.loop-place.invariant
+    (λ refuses. c.in_default.ensures.missed_exactly_where_unwanted (subst₂ Unwanted (ap (λ x. x.wanted) cell) value refuses))
 
 pub returns-in-Some : goal.returns-in-Some
 returns-in-Some g c =
@@ -28,7 +26,7 @@ returns-in-Some g c =
     record {
       is_the_first = record {
         within = omega (arith, length-map c.args.cells.now (cell_of w));
-        none_before = c.loop-place.invariant.1;
+        none_before = c.loop-place.invariant;
         showing = c.digit.ensures.is_the_number ∙ sym again;
         wanting =
             ap (λ x. x.wanted) cell ∙ ap (option_map w.number) missed.0 ∙ ap Some (sym c.digit-in-Some.ensures.is_the_number);

@@ -1,7 +1,7 @@
-use Rattle.std.proofs.Common.{◌≡◌, map, vec_items, vec_len}
+use Rattle.std.proofs.Common.{map}
 use Rattle.galley.specs.Rows.{Turned}
 use Rattle.net.specs.Views.{cell_of}
 use Rattle.galley.proofs.galleys.rows.turn_all.Given as goal
 
 abbrev pub invariant-loop-place : goal.invariant-loop-place
-invariant-loop-place g l = Turned g.W.Wheel.K (map (cell_of g.W.Wheel) l.cells) (map g.W.Wheel.number (vec_items l.initial.shown)) l.place (map g.W.Wheel.number (vec_items l.shown)) × (vec_len l.shown ≡ vec_len l.initial.shown)
+invariant-loop-place g l = Turned g.W.Wheel.K (map (cell_of g.W.Wheel) l.cells) (map g.W.Wheel.number l.initial.shown) l.place (map g.W.Wheel.number l.shown)
