@@ -2,3 +2,4 @@ pub mod Standing
 pub mod Rows
 pub mod Galleys
 pub mod Refusals
+pub mod Texts

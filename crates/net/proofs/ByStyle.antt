@@ -84,8 +84,7 @@ module _ {W : Type 0} (w : Ghosts W) (net : Net W w) (style : ℕ) (cells : List
   cell_found i None item = λ h. let past = item.3 in absurd (omega (arith, as_many))
   cell_found i (Some x) item =
       let within : i < length cells = item.3.0 in
-      let inside : i < length (view w net).places = omega (arith, as_many) in
-      (
+      let inside : i < length (view w net).places = omega (arith, as_many) in (
         inside,
         found.known,
         ap (cell_of w) item.1

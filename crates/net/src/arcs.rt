@@ -1,12 +1,13 @@
 // The six arcs of a Test and Flip net: what a cell is on the wheel of two.
-ghost use Rattle.net.specs.Arcs.{arc_of};
+ghost use Rattle.net.specs.Arcs.{arc_of, arc_bytes};
 ghost use Rattle.net.specs.Views.{cell_of};
 ghost use Rattle.theory.specs.Arcs.{SixArcs, arc_cell, table};
 ghost use Rattle.theory.specs.TestAndFlip.{entries};
 ghost use Rattle.wheel.specs.contracts.two.TwoWheel.TheImpl.{ghosts as of_two};
-ghost use Rattle.std.specs.Prelude.{◌≡◌};
+ghost use Rattle.std.specs.Prelude.{◌≡◌, Some};
 
 use crate::cells::Cell;
+use std::fmt;
 use wheel::turning::Wheel;
 use wheel::two::Two;
 
@@ -24,6 +25,22 @@ pub enum Arc {
     Fill,
     // Tests for 1, and turns it to 0.
     Empty,
+}
+
+// What the arc does to the style that it leads to.
+impl fmt::Display for Arc {
+    ghost output = { λ arc. Some (arc_bytes arc) };
+
+    fn fmt<W: fmt::Write>(&self, f: &mut fmt::Formatter<W>) -> fmt::Result {
+        f.write_str(match self {
+            Arc::NoArc => "has no arc",
+            Arc::TestZero => "tests for 0",
+            Arc::TestOne => "tests for 1",
+            Arc::Complement => "complements",
+            Arc::Fill => "fills",
+            Arc::Empty => "empties",
+        })
+    }
 }
 
 impl Cell<Two> {

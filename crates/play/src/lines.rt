@@ -1,27 +1,9 @@
 // The lines that are printed.
 ghost use Rattle.std.specs.Prelude.{◌≡◌, ◌<◌, ◌++◌, IfOk, string_bytes, OnOk};
-ghost use Rattle.play.specs.Lines.{refusal_bytes, answer_bytes, offer_bytes, menu_bytes, arc_bytes};
+ghost use Rattle.play.specs.Lines.{answer_bytes, offer_bytes, menu_bytes};
 
-use galley::galleys::refusals::{Refusing, SetRefusal};
-use net::arcs::Arc;
+use galley::galleys::refusals::SetRefusal;
 use std::alloc::{AllocError, Global};
-
-// Why Set refused a word.
-fn refusal_line(heap: Global, word: &str, refusal: SetRefusal) -> Result<String, AllocError>
-    ensures says_why_set_refused { IfOk result (λ s. string_bytes s ≡ refusal_bytes word.now refusal) }
-{
-    match refusal {
-        SetRefusal::UnknownStyle => format!(in heap; "{word}: refused, not a style of the net"),
-        SetRefusal::PlaceRefuses(refusing) => {
-            let Refusing {
-                place,
-                shown,
-                wanted,
-            } = refusing;
-            format!(in heap; "{word}: refused, place {place} shows {shown} and wants {wanted}")
-        }
-    }
-}
 
 // What Set answered for a word.
 pub fn answer_line(
@@ -33,7 +15,7 @@ pub fn answer_line(
 {
     match answer {
         Ok(()) => format!(in heap; "{word}: set"),
-        Err(refusal) => refusal_line(heap, word, refusal),
+        Err(refusal) => format!(in heap; "{word}: refused, {refusal}"),
     }
 }
 
@@ -58,18 +40,4 @@ pub fn menu_line(heap: Global, menu: u16) -> Result<String, AllocError>
     push_offer(&mut line, menu, 1, "body")?;
     push_offer(&mut line, menu, 2, "quote")?;
     Ok(line)
-}
-
-// What an arc does to the style that it leads to.
-pub fn arc_word(arc: Arc) -> &'static str
-    ensures names_the_arc { result.now ≡ arc_bytes arc }
-{
-    match arc {
-        Arc::NoArc => "has no arc",
-        Arc::TestZero => "tests for 0",
-        Arc::TestOne => "tests for 1",
-        Arc::Complement => "complements",
-        Arc::Fill => "fills",
-        Arc::Empty => "empties",
-    }
 }

@@ -1,10 +1,11 @@
 // Plays a net of three styles over the styles that are named as arguments, and prints what each step did.
 #![tactic(auto)]
 
-use crate::lines::{answer_line, arc_word, menu_line};
+use crate::lines::{answer_line, menu_line};
 use crate::sample::{sample_net, style_named};
 use anyhow::anyhow;
 use galley::galleys::Galley;
+use galley::galleys::refusals::SetRefusal;
 use net::nets::Net;
 use std::env;
 use wheel::turning::Wheel;
@@ -21,8 +22,8 @@ fn print_net(rt: &HostRuntime, net: &Net<Two>) -> anyhow::Result<()> {
             print!(rt; "place {place} starts at {digit}:")?;
             for (style, name) in ["head", "body", "quote"].iter().enumerate() {
                 if let Some(cell) = net.cell(place, style) {
-                    let word = arc_word(cell.arc());
-                    print!(rt; " {name} {word};")?;
+                    let arc = cell.arc();
+                    print!(rt; " {name} {arc};")?;
                 }
             }
             println!(rt; "")?;
@@ -38,7 +39,10 @@ fn play(rt: &HostRuntime, net: &Net<Two>) -> anyhow::Result<()> {
     };
     rt.println(menu_line(heap, galley.may())?)?;
     for word in env::args(rt)?.skip(1) {
-        let answer = galley.set(style_named(word.as_str()));
+        let answer = match style_named(word.as_str()) {
+            Some(style) => galley.set(style),
+            None => Err(SetRefusal::UnknownStyle),
+        };
         rt.println(answer_line(heap, word.as_str(), answer)?)?;
         rt.println(menu_line(heap, galley.may())?)?;
     }

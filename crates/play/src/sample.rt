@@ -1,5 +1,5 @@
 // The net that the program holds: styles head, body and quote on the wheel of two.
-ghost use Rattle.std.specs.Prelude.{◌≡◌, ◌%◌, IfOk, codes, ◌≢◌};
+ghost use Rattle.std.specs.Prelude.{◌≡◌, ◌%◌, IfOk, Some, None, codes, ◌≢◌};
 ghost use Rattle.net.specs.Views.{view, cell_of};
 ghost use Rattle.play.specs.Sample.{sample};
 ghost use Rattle.play.specs.declared.sample.SampleError.TheVariants.{Making, Putting};
@@ -65,17 +65,17 @@ pub fn sample_net(heap: Global) -> Result<Net<Two>, SampleError>
     Ok(net)
 }
 
-// The number of a style, or 3, which is no style, for any other word.
-pub fn style_named(word: &str) -> u8
-    ensures head_is_0 { word.now ≡ codes "head" → result ≡ 0 }
-    ensures body_is_1 { word.now ≡ codes "body" → result ≡ 1 }
-    ensures quote_is_2 { word.now ≡ codes "quote" → result ≡ 2 }
-    ensures others_are_3 { (word.now ≢ codes "head") → (word.now ≢ codes "body") → (word.now ≢ codes "quote") → result ≡ 3 }
+// The number of the style that a word names, if it names one.
+pub fn style_named(word: &str) -> Option<u8>
+    ensures head_is_0 { word.now ≡ codes "head" → result ≡ Some 0 }
+    ensures body_is_1 { word.now ≡ codes "body" → result ≡ Some 1 }
+    ensures quote_is_2 { word.now ≡ codes "quote" → result ≡ Some 2 }
+    ensures others_are_none { (word.now ≢ codes "head") → (word.now ≢ codes "body") → (word.now ≢ codes "quote") → result ≡ None }
 {
     match word {
-        "head" => 0,
-        "body" => 1,
-        "quote" => 2,
-        _ => 3,
+        "head" => Some(0),
+        "body" => Some(1),
+        "quote" => Some(2),
+        _ => None,
     }
 }
