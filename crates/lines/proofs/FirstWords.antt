@@ -1,8 +1,7 @@
 -- Words and style lines: the bytes tell the word and what follows. Assumes nothing.
-use Rattle.std.proofs.Common.{◌≡◌, ℕ, ◌+◌, ◌<◌, ◌≤◌, List, ◌∷◌, ◌++◌, length, get_or, take, drop, codes, sym, refl, ap, ◌∙◌, ⊎_elim, arith, length-append}
-use Rattle.std.proofs.lemmas.List.{get_or_append_left, get_or-take, get_or-drop, length-take-le, length-drop, take-append-drop, take_at, drop_at, append_assoc, append_cancel_left}
+use Rattle.std.proofs.Common.{◌≡◌, ℕ, ◌+◌, ◌<◌, List, ◌∷◌, ◌++◌, length, get_or, take, drop, codes, sym, refl, ap, ◌∙◌, ⊎_elim, arith, length-append}
+use Rattle.std.proofs.lemmas.List.{get_or_append_left, take_at, drop_at, append_assoc, append_cancel_left}
 use Rattle.std.proofs.lemmas.Bool.{both_ways, cases_order}
-use Rattle.texts.specs.Limits.{name_limit}
 use Rattle.texts.specs.Names.{name_byte}
 use Rattle.lines.specs.Opening.{NameBytes, FirstWord, StyleLine}
 use Rattle.lines.proofs.FirstBytes.{after, opened, first, at_end}
@@ -25,23 +24,6 @@ word_counted bytes w rest n h counted = ⊎_elim (λ e. e) (⊎_elim (λ l. absu
         let same : get_or bytes (length w) 0 ≡ get_or rest 0 0 = ap (λ xs. get_or xs (length w) 0) h.opens ∙ at_end w rest in
         both_ways _ (h.longest (get_or rest 0 0) (after rest) (opened rest _ some refl)) (sym (ap name_byte same) ∙ counted.each (length w) l)
 
--- 1 to 12 name bytes in front, and no more, are a word
-pub counted_word : (bytes : List ℕ) (n : ℕ) → 1 ≤ n → n ≤ name_limit → NameBytes bytes n → FirstWord bytes (take n bytes) (drop n bytes)
-counted_word bytes n some few counted =
-    let long : length (take n bytes) ≡ n = length-take-le n bytes counted.within in
-    record {
-      formed = record {
-        some = omega (arith, long);
-        few = omega (arith, long);
-        bytes = λ i h. let below : i < n = omega (arith, long) in ap name_byte (get_or-take n bytes i 0 below) ∙ counted.each i below;
-      };
-      opens = sym (take-append-drop n bytes);
-      longest = λ byte more e.
-          let start : n ≡ n + 0 = omega arith in
-          let here : get_or bytes n 0 ≡ byte = ap (λ i. get_or bytes i 0) start ∙ sym (get_or-drop n bytes 0 0) ∙ first e in
-          sym (ap name_byte here) ∙ counted.stops few (omega (arith, length-drop n bytes, ap length e));
-    }
-
 -- the name bytes in front are those of the word
 word_bytes : {bytes w rest : List ℕ} → FirstWord bytes w rest → NameBytes bytes (length w)
 word_bytes {bytes} {w} {rest} h =
@@ -62,13 +44,6 @@ one_word {bytes} {w} {w'} {rest} {rest'} h k =
     let both : w ++ rest ≡ w' ++ rest' = sym h.opens ∙ k.opens in
     (sym (take_at w rest (length w) refl) ∙ ap (take (length w)) both ∙ take_at w' rest' (length w) long, sym (drop_at w rest (length w) refl) ∙ ap (drop (length w)) both ∙ drop_at w' rest' (length w) long)
 
--- a word after the key, and a line feed after the word, are a style's line
-pub named : (bytes left name follows rest : List ℕ) → bytes ≡ codes "style=" ++ left → FirstWord left name follows → follows ≡ 10 ∷ rest → StyleLine bytes name rest
-named bytes left name follows rest e h feed = record {
-  formed = h.formed;
-  opens = e ∙ ap (λ xs. codes "style=" ++ xs) (h.opens ∙ ap (λ xs. name ++ xs) feed) ∙ sym (append_assoc (codes "style=") name (10 ∷ rest));
-}
-
 -- the name of a style's line is the first word after the key
 pub name_first : (bytes left name rest : List ℕ) → bytes ≡ codes "style=" ++ left → StyleLine bytes name rest → FirstWord left name (10 ∷ rest)
 name_first bytes left name rest e h = record {
@@ -76,11 +51,3 @@ name_first bytes left name rest e h = record {
   opens = append_cancel_left (codes "style=") left (name ++ (10 ∷ rest)) (sym e ∙ h.opens ∙ append_assoc (codes "style=") name (10 ∷ rest));
   longest = λ byte more same. ap name_byte (sym (first same));
 }
-
--- there is one name, and one rest
-pub one_name : {bytes name name' rest rest' : List ℕ} → StyleLine bytes name rest → StyleLine bytes name' rest' → (name ≡ name') × (rest ≡ rest')
-one_name {bytes} {name} {name'} {rest} {rest'} h k =
-    let left = name ++ (10 ∷ rest) in
-    let split : bytes ≡ codes "style=" ++ left = h.opens ∙ append_assoc (codes "style=") name (10 ∷ rest) in
-    let both = one_word (name_first bytes left name rest split h) (name_first bytes left name' rest' split k) in
-    (both.0, ap (drop 1) both.1)

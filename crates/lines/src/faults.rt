@@ -1,12 +1,12 @@
 // What can be wrong with a text.
-ghost use Rattle.lines.specs.declared.faults.Cause.TheVariants.{Form};
+ghost use Rattle.lines.specs.declared.faults.Cause.TheVariants.{Form, Name};
 ghost use Rattle.lines.specs.declared.faults.TextFault.TheVariants.{Line, OutOfMemory};
 ghost use Rattle.std.specs.Prelude.{◌≡◌};
 
 use std::alloc::AllocError;
 
 // What is wrong with a line.
-#[derive(Clone, Copy, Debug)]
+#[derive(Clone, Copy, Debug, PartialEq, Eq)]
 pub enum Cause {
     // Not of its form, missing or extra.
     Form,
@@ -15,13 +15,13 @@ pub enum Cause {
 }
 
 // The first line that is out of order. Lines count from 1.
-#[derive(Clone, Copy, Debug)]
+#[derive(Clone, Copy, Debug, PartialEq, Eq)]
 pub struct LineFault {
     pub line: u32,
     pub cause: Cause,
 }
 
-#[derive(Clone, Copy, Debug)]
+#[derive(Clone, Copy, Debug, PartialEq, Eq)]
 pub enum TextFault {
     Line(LineFault),
     // The number of bytes, which is more than a text may have.
@@ -55,6 +55,16 @@ impl LineFault {
         LineFault {
             line,
             cause: Cause::Form,
+        }
+    }
+
+    // A line whose name at this byte is repeated or unknown.
+    pub fn name(line: u32, byte: u32) -> LineFault
+        ensures is_a_fault_of_a_name { result ≡ record { line = line; cause = Name byte } }
+    {
+        LineFault {
+            line,
+            cause: Cause::Name { byte },
         }
     }
 }

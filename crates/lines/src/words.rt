@@ -18,22 +18,21 @@ fn name_byte(byte: u8) -> bool
 fn name_length(bytes: &[u8]) -> usize
     ensures counts_the_name_bytes_in_front { NameBytes bytes.now result }
 {
-    let mut count = 0;
-    while count <= NAME_LIMIT && count < bytes.len() && name_byte(bytes[count]) {
-        count += 1;
-    }
-    count
+    bytes
+        .iter()
+        .take(NAME_LIMIT + 1)
+        .take_while(|byte| name_byte(**byte))
+        .count()
 }
 
 // The longest front of name bytes and the bytes after it, where that front is a style name.
 pub fn word<'a>(bytes: &'a [u8]) -> Option<(&'a [u8], &'a [u8])>
     ensures splits_off_the_first_word { MatchOption result ((w rest : List ℕ) → FirstWord bytes.now w rest → ⊥) (λ x. FirstWord bytes.now x.0.now x.1.now) }
 {
-    let count = name_length(bytes);
-    if count == 0 || count > NAME_LIMIT {
-        return None;
+    match name_length(bytes) {
+        count @ 1..=NAME_LIMIT => Some(bytes.split_at(count)),
+        _ => None,
     }
-    Some(bytes.split_at(count))
 }
 
 // The name and the bytes after its line feed, where the bytes open with a style's line.
@@ -41,8 +40,6 @@ pub fn style_line<'a>(bytes: &'a [u8]) -> Option<(&'a [u8], &'a [u8])>
     ensures reads_a_styles_line { MatchOption result ((name rest : List ℕ) → StyleLine bytes.now name rest → ⊥) (λ x. StyleLine bytes.now x.0.now x.1.now) }
 {
     let (name, after) = word(literal(bytes, STYLE)?)?;
-    match after {
-        [b'\n', rest @ ..] => Some((name, rest)),
-        _ => None,
-    }
+    let rest = literal(after, b"\n")?;
+    Some((name, rest))
 }

@@ -1,11 +1,8 @@
 use Rattle.std.proofs.Common.{◌-◌, length, get_or, sym, ap, ◌∙◌, ⊎_elim, arith, ltb-false, ltb-true}
-use Rattle.lines.proofs.Decimals.{first_digit, goes_on, begun, read_on, ended}
+use Rattle.lines.proofs.Decimals.{first_digit, goes_on, begun, read_on}
 use Rattle.lines.proofs.FirstBytes.{first}
 use Rattle.lines.proofs.numbers.any_number.Goals as goal
 use Rattle.lines.proofs.numbers.any_number.Goals.{in_default-rest-via-then-rest-lt1, in_default-rest-via-in-len1-up-rest+then-value-gt0+else-value-lt100, in_default-rest-via-in-len1-up-rest+else-value-gt0}
-
-pub returns-in_default : goal.returns-in_default
-returns-in_default c = record { reads_a_number = λ v rest h. omega (arith, ltb-true, (first_digit v c.args.bytes.now _ h.small h.opens).0) }
 
 pub returns-in_err-value : goal.returns-in_err-value
 returns-in_err-value c =
@@ -22,16 +19,6 @@ loop-rest-init c =
       omega arith,
       begun c.args.bytes.now c.in_ok-value.value (omega (arith, ltb-false)) digit.1 digit.0,
     )
-
-pub returns-in-10 : goal.returns-in-10
-returns-in-10 c = record {
-  reads_a_number = record {
-    from_low = omega arith;
-    to_high = omega arith;
-    small = c.loop-rest.invariant.0;
-    opens = ended c.args.bytes.now c.loop-rest.rest.now c.loop-rest.value c.loop-rest.invariant.1 (omega (arith, ltb-false)) (omega arith);
-  };
-}
 
 pub returns-in_err-value-in-len1-up-rest : goal.returns-in_err-value-in-len1-up-rest
 returns-in_err-value-in-len1-up-rest c =
