@@ -1,6 +1,6 @@
 -- Reading stored names, and storing one more. Assumes nothing.
-use Rattle.std.proofs.Common.{◌≡◌, ℕ, ◌+◌, ◌<◌, ◌≤◌, List, [], ◌∷◌, ◌++◌, map, length, get_or, take, set, sym, ap, ◌∙◌, ⊎_elim, arith}
-use Rattle.std.proofs.lemmas.List.{length-map, length-take-le, length_push, get_or-map, get_or-take, get_or_append_left, get_or_push, map_push, take_more_set}
+use Rattle.std.proofs.Common.{◌≡◌, ℕ, ◌+◌, ◌<◌, ◌≤◌, List, [], ◌∷◌, ◌++◌, map, length, take, set, sym, ap, ◌∙◌, ⊎_elim, arith}
+use Rattle.std.proofs.lemmas.List.{length-map, length-take-le, length_push, get_or_append_left, get_or_push, map_push, take_more_set}
 use Rattle.std.proofs.lemmas.Bool.{cases_lt}
 use Rattle.texts.specs.Names.{Different}
 use Rattle.sheet.specs.Adding.{NoneEqual}
@@ -10,11 +10,6 @@ use Rattle.sheet.specs.declared.names.Name.{Name}
 module _ (names : List Name) (count : ℕ) where
   pub first_names_count : count ≤ length names → length (first_names names count) ≡ count
   first_names_count h = length-map (take count names) bytes_of ∙ length-take-le count names h
-
-  pub first_names_at : (i : ℕ) (x : Name) → count ≤ length names → i < count → x ≡ get_or names i x → get_or (first_names names count) i [] ≡ bytes_of x
-  first_names_at i x h below e =
-      get_or-map bytes_of (take count names) i x [] (omega (arith, length-take-le count names h))
-      ∙ ap bytes_of (get_or-take count names i x below ∙ sym e)
 
   pub first_names_push : (x : Name) → count < length names → first_names (set names count x) (count + 1) ≡ first_names names count ++ (bytes_of x ∷ [])
   first_names_push x h = ap (map bytes_of) (take_more_set names count x h) ∙ map_push bytes_of (take count names) x

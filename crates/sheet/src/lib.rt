@@ -1,4 +1,4 @@
 #![tactic(auto)]
 
-mod names;
+pub mod names;
 pub mod sheets;

@@ -9,8 +9,9 @@ mod forms;
 mod storing;
 
 // A name of the name form: the first `len` bytes.
+// A sheet is plain fixed memory and `Copy`: an array and a length need no heap.
 #[derive(Clone, Copy)]
-pub(crate) struct Name {
+pub struct Name {
     bytes: [u8; NAME_LIMIT],
     len: usize,
     ghost size: { length bytes ≡ name_limit },

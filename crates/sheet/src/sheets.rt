@@ -12,6 +12,7 @@ pub mod errors;
 pub mod reading;
 
 // The first `count` names, no two of them equal.
+// Plain fixed memory and `Copy`: an array and a count need no heap.
 #[derive(Clone, Copy)]
 pub struct Sheet {
     names: [Name; STYLE_LIMIT],

@@ -8,8 +8,5 @@ use lines::words::word;
 pub(super) fn is_name(bytes: &[u8]) -> bool
     ensures decides_the_name_form { Decides result (NameForm bytes.now) }
 {
-    match word(bytes) {
-        Some((_, rest)) => rest.is_empty(),
-        None => false,
-    }
+    word(bytes).is_some_and(|(_, rest)| rest.is_empty())
 }

@@ -27,14 +27,14 @@ impl Name {
         }
         let len = bytes.len();
         let mut stored = [0; NAME_LIMIT];
-        stored[0..len].copy_from_slice(bytes);
+        stored[..len].copy_from_slice(bytes);
         Some(Name { bytes: stored, len })
     }
 
     // The name's bytes.
-    pub(crate) fn bytes(&self) -> &[u8]
+    pub fn bytes(&self) -> &[u8]
         ensures are_the_bytes_stored { result.now ≡ bytes_of self.now }
     {
-        &self.bytes[0..self.len]
+        &self.bytes[..self.len]
     }
 }

@@ -1,5 +1,5 @@
 // Why a name was not added.
-#[derive(Clone, Copy, Debug)]
+#[derive(Clone, Copy, Debug, PartialEq, Eq)]
 pub enum SheetError {
     // The bytes do not have the name form.
     NotAName,

@@ -1,12 +1,21 @@
 // Reading a sheet.
-ghost use Rattle.std.specs.Prelude.{◌≡◌, ℕ, ◌<◌, ◌≤◌, [], length, MatchOption, ◌≢◌, slice_index_or};
+ghost use Rattle.std.specs.Prelude.{◌≡◌, ℕ, ◌<◌, ◌≤◌, [], map, length, MatchOption, ◌≢◌, slice_index_or};
+ghost use Rattle.sheet.specs.Stored.{bytes_of};
 ghost use Rattle.sheet.specs.Views.{names_of};
 ghost use Rattle.texts.specs.Names.{Sheet as Proper};
 ghost use Rattle.theory.specs.Limits.{style_limit};
 
+use crate::names::Name;
 use crate::sheets::Sheet;
 
 impl Sheet {
+    // The names, in order.
+    pub fn names(&self) -> &[Name]
+        ensures are_the_names_in_order { map bytes_of result.now ≡ names_of self.now }
+    {
+        &self.names[..self.count]
+    }
+
     // How many names there are.
     pub fn count(&self) -> usize
         ensures counts_the_names { result ≡ length (names_of self.now) }
@@ -20,21 +29,15 @@ impl Sheet {
     pub fn name(&self, style: usize) -> Option<&[u8]>
         ensures is_the_name_of_the_style { MatchOption result (length (names_of self.now) ≤ style) (λ x. (style < length (names_of self.now)) × (x.now ≡ slice_index_or (names_of self.now) style [])) }
     {
-        if style >= self.count {
-            return None;
-        }
-        Some(self.names[style].bytes())
+        self.names().get(style).map(Name::bytes)
     }
 
     // The style of a name, if a style has it.
     pub fn find(&self, name: &[u8]) -> Option<usize>
         ensures is_the_style_of_the_name { MatchOption result ((i : ℕ) → i < length (names_of self.now) → slice_index_or (names_of self.now) i [] ≢ name.now) (λ i. (i < length (names_of self.now)) × (slice_index_or (names_of self.now) i [] ≡ name.now)) }
     {
-        for (style, stored) in self.names[0..self.count].iter().enumerate() {
-            if stored.bytes() == name {
-                return Some(style);
-            }
-        }
-        None
+        self.names()
+            .iter()
+            .position(|stored| stored.bytes() == name)
     }
 }

@@ -1,4 +1,4 @@
-use Rattle.std.proofs.Common.{◌≡◌, ℕ, List, [], ◌++◌, length, sym, ap, ◌∙◌, subst, arith}
+use Rattle.std.proofs.Common.{◌≡◌, ℕ, Bool, false, eqb, List, [], ◌++◌, length, Some, None, Option, Bor, MatchOption, Decides, sym, ap, ◌∙◌, subst, arith, rules}
 use Rattle.lines.proofs.FirstWords.{one_word}
 use Rattle.lines.specs.Opening.{FirstWord}
 use Rattle.std.proofs.lemmas.List.{append-nil, nil_from_length}
@@ -18,18 +18,12 @@ whole_word {bytes} form = record {
 only_word : {bytes word rest : List ℕ} → FirstWord bytes word rest → rest ≡ [] → NameForm bytes
 only_word {bytes} {word} {rest} first none = subst NameForm (sym (first.opens ∙ ap (λ xs. word ++ xs) none ∙ append-nil word)) first.formed
 
-pub returns-in-Some : goal.returns-in-Some
-returns-in-Some c =
-    let first = c.in-Some.ensures.splits_off_the_first_word in
-    let rest = c.in-Some.rest.now in
-    record {
-      decides_the_name_form = (
-        λ e. only_word first (nil_from_length rest (eqb-true (length rest) 0 (sym c.is_empty.ensures ∙ e))),
-        λ form. c.is_empty.ensures ∙ eq-eqb (length rest) 0 (ap length (one_word first (whole_word form)).1),
-      );
-    }
+told : (bytes : List ℕ) (o : Option (Bor (List ℕ) × Bor (List ℕ))) (r : Bool) → MatchOption o ((w rest : List ℕ) → FirstWord bytes w rest → ⊥) (λ x. FirstWord bytes x.0.now x.1.now) → MatchOption o (r ≡ false) (λ x. r ≡ eqb (length x.1.now) 0) → Decides r (NameForm bytes)
+told bytes None r none is = (λ e. absurd (false≢true (sym is ∙ e)), λ form. absurd (none _ _ (whole_word form)))
+told bytes (Some x) r first is = (
+  λ e. only_word first (nil_from_length x.1.now (eqb-true (length x.1.now) 0 (sym is ∙ e))),
+  λ form. is ∙ eq-eqb (length x.1.now) 0 (ap length (one_word first (whole_word form)).1),
+)
 
-pub returns-in-None : goal.returns-in-None
-returns-in-None c = record {
-  decides_the_name_form = (λ e. absurd (false≢true e), λ form. absurd (c.in-None.ensures.splits_off_the_first_word _ _ (whole_word form)));
-}
+pub returns : goal.returns
+returns c = record { decides_the_name_form = told c.args.bytes.now c.word.result c.is_some_and.result c.word.ensures.splits_off_the_first_word (search rules) }

@@ -1,13 +1,11 @@
 use Rattle.std.proofs.Common.{◌≡◌, ℕ, ◌+◌, ◌<◌, List, [], ◌∷◌, ◌++◌, set, sym, ap, ◌∙◌, subst, arith}
 use Rattle.std.proofs.lemmas.List.{length-set}
-use Rattle.std.proofs.lemmas.Bool.{false≢true}
 use Rattle.texts.specs.Names.{Different}
 use Rattle.theory.specs.Limits.{style_limit}
 use Rattle.sheet.specs.Stored.{bytes_of, first_names}
 use Rattle.sheet.specs.Views.{names_of}
 use Rattle.sheet.specs.declared.names.Name.{Name}
 use Rattle.sheet.specs.declared.sheets.Sheet.{Sheet}
-use Rattle.sheet.proofs.Proper.{names_count}
 use Rattle.sheet.proofs.Stored.{different_push, first_names_push}
 use Rattle.sheet.proofs.sheets.Sheet.add.Goals as goal
 
@@ -25,14 +23,4 @@ invariant_of-self c =
       size = length-set sheet.names sheet.count c.in-Some.stored ∙ sheet.size;
       few = omega arith;
       different = subst Different (sym (pushed sheet c.in-Some.stored c.args.name.now room new.1)) (different_push (names_of sheet) c.args.name.now sheet.different none);
-    }
-
-pub returns : goal.returns
-returns c =
-    let sheet = c.args.self.now in
-    let room : sheet.count < style_limit = omega (arith, sheet.few) in
-    let new = c.in-Some.ensures.stores_the_bytes_of_a_name in
-    record {
-      added_last_or_refused = (new.0, c.in_default-find.ensures.is_the_style_of_the_name, omega (arith, names_count sheet), pushed sheet c.in-Some.stored c.args.name.now room new.1);
-      refused_calls_change_nothing = λ e. absurd (false≢true e);
     }

@@ -1,41 +1,27 @@
-use Rattle.std.proofs.Common.{◌≡◌, ℕ, ◌-◌, ◌<◌, [], length, get_or, take, sym, ◌∙◌, arith, below_more}
-use Rattle.std.proofs.lemmas.Slice.Eq.{slice_eq-Decides}
-use Rattle.std.proofs.lemmas.List.{length-take-le, get_or-take}
-use Rattle.std.proofs.lemmas.Bool.Decides.{not_from_Decides, Decides-eqb}
+use Rattle.std.proofs.Common.{◌≡◌, ℕ, ◌<◌, List, [], ◌∷◌, map, length, get_or, Some, None, Option, MatchOption, ◌≢◌, sym, ◌∙◌, arith, rules, tests}
+use Rattle.std.proofs.lemmas.Iterator.{IsFirst-from_position, YieldsList-from_slice}
+use Rattle.std.proofs.lemmas.List.{get_or-map, length-map}
+use Rattle.std.specs.List.{AllWithin, HoldsAt}
 use Rattle.sheet.specs.Stored.{bytes_of}
-use Rattle.sheet.specs.Views.{names_of}
 use Rattle.sheet.specs.declared.names.Name.{Name}
-use Rattle.sheet.specs.declared.sheets.Sheet.{Sheet}
-use Rattle.sheet.proofs.Proper.{names_count}
-use Rattle.sheet.proofs.Stored.{first_names_at}
 use Rattle.sheet.proofs.sheets.Sheet.find.Goals as goal
 
-module _ (sheet : Sheet) where
-  -- the part of the names that is searched
-  searched : length (take (sheet.count - 0) sheet.names) ≡ sheet.count
-  searched = length-take-le (sheet.count - 0) sheet.names (omega (arith, sheet.size, sheet.few)) ∙ omega arith
+some_name : (names : List Name) (i : ℕ) → i < length names → Name
+some_name [] i below = absurd (omega arith)
+some_name (name ∷ names) i below = name
 
-  item : (i : ℕ) (x : Name) → i < length (take (sheet.count - 0) sheet.names) → x ≡ get_or (take (sheet.count - 0) sheet.names) i x → get_or (names_of sheet) i [] ≡ bytes_of x
-  item i x h e =
-      let below : i < sheet.count = omega (arith, searched) in
-      first_names_at sheet.names sheet.count i x (omega (arith, sheet.size, sheet.few)) below (e ∙ get_or-take (sheet.count - 0) sheet.names i x (omega arith))
-
-pub returns-then-eq : goal.returns-then-eq
-returns-then-eq c =
-    let sheet = c.args.self.now in
-    let found = item sheet c.loop-style.style c.stored-item.result c.loop-style-test.true c.stored-item.is in
-    let same = (slice_eq-Decides Decides-eqb c.bytes.result.now c.args.name.now c.eq.result c.eq.ensures).0 c.if-eq.true in
-    record { is_the_style_of_the_name = (omega (arith, names_count sheet, searched sheet, c.loop-style-test.true), found ∙ sym c.bytes.ensures.are_the_bytes_stored ∙ same) }
-
-pub loop-style-preserved : goal.loop-style-preserved
-loop-style-preserved c =
-    let sheet = c.args.self.now in
-    let read = item sheet c.loop-style.style c.stored-item.result c.loop-style-test.true c.stored-item.is in
-    let decides = slice_eq-Decides Decides-eqb c.bytes.result.now c.args.name.now c.eq.result c.eq.ensures in
-    below_more (λ i. get_or (names_of sheet) i [] ≡ c.args.name.now → ⊥) c.loop-style.style c.loop-style.invariant
-    (λ e. not_from_Decides c.eq.result decides c.if-eq.false (c.bytes.ensures.are_the_bytes_stored ∙ sym read ∙ e))
+-- what is found among the stored names is found among their bytes
+found : (names : List Name) (name : List ℕ) (r : Option ℕ) → MatchOption r (AllWithin (λ x. bytes_of x ≢ name) names 0 (length names)) (λ i. (i < length names) × HoldsAt (λ x. bytes_of x ≡ name) names i × AllWithin (λ x. bytes_of x ≢ name) names 0 i) → MatchOption r ((i : ℕ) → i < length (map bytes_of names) → get_or (map bytes_of names) i [] ≢ name) (λ i. (i < length (map bytes_of names)) × (get_or (map bytes_of names) i [] ≡ name))
+found names name None none = λ i h e.
+    let below : i < length names = omega (arith, length-map names bytes_of) in
+    let x = some_name names i below in
+    none i x (omega arith) below (sym (get_or-map bytes_of names i x [] below) ∙ e)
+found names name (Some i) first = (
+  omega (arith, length-map names bytes_of, first.0),
+  get_or-map bytes_of names i (some_name names i first.0) [] first.0 ∙ first.1 (some_name names i first.0),
+)
 
 pub returns : goal.returns
 returns c =
-    let sheet = c.args.self.now in
-    record { is_the_style_of_the_name = λ i h. c.loop-style.invariant i (omega (arith, names_count sheet, searched sheet, c.loop-style-test.false)) }
+    let first = IsFirst-from_position _ _ c.position.result (λ x. bytes_of x ≡ c.args.name.now) (λ x. bytes_of x ≢ c.args.name.now) c.position.ensures.ran (YieldsList-from_slice c.names.result.now cc) (λ x q k. search (rules, tests)) (λ x q k. search (rules, tests)) in
+    rw (← c.names.ensures.are_the_names_in_order) (record { is_the_style_of_the_name = found c.names.result.now c.args.name.now c.position.result first })
