@@ -1,5 +1,6 @@
 -- Lines of a key and a number: the bytes tell the number and what follows. Assumes nothing.
-use Rattle.std.proofs.Common.{◌≡◌, ℕ, List, [], ◌∷◌, ◌++◌, drop, decimal, sym, ap, ◌∙◌, ⊎_elim, arith}
+use Rattle.std.proofs.Common.{◌≡◌, ℕ, List, [], ◌∷◌, ◌++◌, drop, decimal, Option, sym, ap, ◌∙◌, ⊎_elim, subst₂, arith, MatchOption}
+use Rattle.std.specs.Borrow.{Bor}
 use Rattle.std.proofs.lemmas.List.{append_assoc, append_cancel_left}
 use Rattle.lines.specs.Opening.{NumberLine}
 use Rattle.lines.proofs.Decimals.{goes_on}
@@ -27,3 +28,8 @@ pub one_number : {key bytes : List ℕ} {low high low' high' v v' : ℕ} {rest r
 one_number {key} {v} {v'} {rest} {rest'} h k =
     let both : decimal v ++ (10 ∷ rest) ≡ decimal v' ++ (10 ∷ rest') = append_cancel_left key _ _ (sym (append_assoc key (decimal v) (10 ∷ rest)) ∙ sym h.opens ∙ k.opens ∙ append_assoc key (decimal v') (10 ∷ rest')) in
     ⊎_elim (λ same. (same.0, ap (drop 1) same.1)) (λ more. absurd (omega (arith, more.digit))) (goes_on v v' (10 ∷ rest) rest' h.small k.small both)
+
+-- what a reader of a number says, at the ends that its range was made of
+pub between : (key bytes : List ℕ) (o : Option (ℕ × Bor (List ℕ))) {low high from to : ℕ} → low ≡ from → high ≡ to → MatchOption o ((v : ℕ) (rest : List ℕ) → NumberLine key low high bytes v rest → ⊥) (λ x. NumberLine key low high bytes x.0 x.1.now) → MatchOption o ((v : ℕ) (rest : List ℕ) → NumberLine key from to bytes v rest → ⊥) (λ x. NumberLine key from to bytes x.0 x.1.now)
+between key bytes o low high read =
+    subst₂ (λ a b. MatchOption o ((v : ℕ) (rest : List ℕ) → NumberLine key a b bytes v rest → ⊥) (λ x. NumberLine key a b bytes x.0 x.1.now)) low high read

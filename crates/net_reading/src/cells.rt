@@ -12,10 +12,7 @@ use wheel::turning::Wheel;
 pub(crate) fn digit<W: Wheel>(byte: u8) -> Option<W>
     ensures reads_a_digit_of_the_wheel { MatchOption result (NoDigit W.Wheel.K byte) (λ x. byte ≡ digit_byte (W.Wheel.number x)) }
 {
-    if byte < b'0' {
-        return None;
-    }
-    let value = byte - b'0';
+    let value = byte.checked_sub(b'0')?;
     if value >= W::positions() {
         return None;
     }

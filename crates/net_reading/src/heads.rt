@@ -19,11 +19,11 @@ pub(crate) fn read_head<'a>(text: &'a [u8], wheel: u8) -> Result<(usize, &'a [u8
         return Err(TextFault::TooLong(text.len()));
     }
     let rest = literal(text, NET_OPENING).ok_or(LineFault::form(1))?;
-    let (named, rest) = keyed_number(rest, WHEEL, 2, 9).ok_or(LineFault::form(2))?;
+    let (named, rest) = keyed_number(rest, WHEEL, 2..=9).ok_or(LineFault::form(2))?;
     if named != u16::from(wheel) {
         return Err(TextFault::OtherWheel(named as u8));
     }
-    let (styles, rest) = keyed_number(rest, STYLES, 1, STYLE_LIMIT as u16).ok_or(LineFault::form(
+    let (styles, rest) = keyed_number(rest, STYLES, 1..=STYLE_LIMIT as u16).ok_or(LineFault::form(
         3,
     ))?;
     Ok((usize::from(styles), rest))

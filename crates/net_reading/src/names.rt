@@ -4,7 +4,7 @@ ghost use Rattle.net_reading.specs.Names.{StyleOwes, NamesOwe};
 ghost use Rattle.sheet.specs.Views.{names_of};
 ghost use Rattle.theory.specs.Limits.{style_limit};
 
-use lines::faults::{Cause, LineFault};
+use lines::faults::LineFault;
 use lines::keys::STYLE;
 use lines::words::style_line;
 use sheet::sheets::Sheet;
@@ -15,19 +15,11 @@ fn read_style<'a>(bytes: &'a [u8], line: u32, sheet: &mut Sheet) -> Result<&'a [
     requires room_for_a_name { length (names_of sheet.old) < style_limit }
     ensures adds_the_name_or_tells_what_is_wrong { StyleOwes line (names_of sheet.old) bytes.now (names_of sheet.new) result }
 {
-    let (name, rest) = style_line(bytes).ok_or(LineFault {
-        line,
-        cause: Cause::Form,
-    })?;
-    match sheet.add(name) {
-        Ok(()) => Ok(rest),
-        Err(_) => Err(LineFault {
-            line,
-            cause: Cause::Name {
-                byte: STYLE.len() as u32,
-            },
-        }),
-    }
+    let (name, rest) = style_line(bytes).ok_or(LineFault::form(line))?;
+    sheet
+        .add(name)
+        .map_err(|_| LineFault::name(line, STYLE.len() as u32))?;
+    Ok(rest)
 }
 
 // Reads the style lines into a blank sheet, and answers the bytes after them.

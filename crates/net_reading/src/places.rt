@@ -2,7 +2,7 @@
 ghost use Rattle.net.specs.Views.{cell_of};
 ghost use Rattle.net_reading.specs.Opening.{NoCells, NoPlace, place_of};
 ghost use Rattle.std.specs.List.{flat_map};
-ghost use Rattle.std.specs.Prelude.{◌≡◌, ◌∷◌, ◌++◌, map, vec_len, MatchOption};
+ghost use Rattle.std.specs.Prelude.{◌≡◌, ◌∷◌, ◌++◌, map, length, MatchOption};
 ghost use Rattle.texts.specs.Lines.{line_feed};
 ghost use Rattle.texts.specs.NetText.{cell_bytes, place_line as line_of_place};
 
@@ -13,14 +13,14 @@ use net::cells::Cell;
 use wheel::turning::Wheel;
 
 // Reads over all the cells, and answers the bytes after them.
-fn read_cells<'a, W: Wheel>(bytes: &'a [u8], cells: &mut Vec<Cell<W>>) -> Option<&'a [u8]>
-    ensures reads_every_cell { MatchOption result (NoCells W.Wheel.K (vec_len cells.old) bytes.now) (λ rest. bytes.now ≡ flat_map cell_bytes (map (cell_of W.Wheel) cells.new.items) ++ rest.now) }
-    ensures as_many_cells_as_before { vec_len cells.new ≡ vec_len cells.old }
+fn read_cells<'a, W: Wheel>(bytes: &'a [u8], cells: &mut [Cell<W>]) -> Option<&'a [u8]>
+    ensures reads_every_cell { MatchOption result (NoCells W.Wheel.K (length cells.old) bytes.now) (λ rest. bytes.now ≡ flat_map cell_bytes (map (cell_of W.Wheel) cells.new) ++ rest.now) }
+    ensures as_many_cells_as_before { length cells.new ≡ length cells.old }
 {
     let mut rest = bytes;
-    for style in 0..cells.len() {
+    for slot in cells.iter_mut() {
         let (read, after) = cell(rest)?;
-        cells[style] = read;
+        *slot = read;
         rest = after;
     }
     Some(rest)
@@ -29,10 +29,10 @@ fn read_cells<'a, W: Wheel>(bytes: &'a [u8], cells: &mut Vec<Cell<W>>) -> Option
 // Reads a place's line over the cells, and answers the start value and the bytes after the line.
 pub(crate) fn place_line<'a, W: Wheel>(
     bytes: &'a [u8],
-    cells: &mut Vec<Cell<W>>,
+    cells: &mut [Cell<W>],
 ) -> Option<(W, &'a [u8])>
-    ensures reads_a_places_line { MatchOption result (NoPlace W.Wheel.K (vec_len cells.old) bytes.now) (λ x. bytes.now ≡ line_of_place (place_of W.Wheel x.0 cells.new.items) ++ (line_feed ∷ x.1.now)) }
-    ensures as_many_cells_as_before { vec_len cells.new ≡ vec_len cells.old }
+    ensures reads_a_places_line { MatchOption result (NoPlace W.Wheel.K (length cells.old) bytes.now) (λ x. bytes.now ≡ line_of_place (place_of W.Wheel x.0 cells.new) ++ (line_feed ∷ x.1.now)) }
+    ensures as_many_cells_as_before { length cells.new ≡ length cells.old }
 {
     let [first, after @ ..] = literal(bytes, PLACE)? else {
         return None;

@@ -27,10 +27,7 @@ fn idle<W: Wheel>(heap: Global, styles: usize, places: usize) -> Result<Net<W>, 
     requires few_places { places ≤ place_limit }
     ensures made_idle_or_out_of_memory { MatchResult result (λ net. view W.Wheel net ≡ idle_net W.Wheel styles places) (λ fault. fault ≡ OutOfMemory) }
 {
-    match Net::idle(heap, styles, places) {
-        Ok(net) => Ok(net),
-        Err(_) => Err(TextFault::OutOfMemory),
-    }
+    Net::idle(heap, styles, places).map_err(|_| TextFault::OutOfMemory)
 }
 
 // The net of a text, and the names of its styles.
@@ -41,7 +38,7 @@ fn parsed<W: Wheel>(heap: Global, text: &[u8]) -> Result<(Net<W>, Sheet), TextFa
     let mut sheet = Sheet::blank();
     let rest = read_names(rest, styles, &mut sheet)?;
     let before_places = 4 + styles as u32;
-    let (places, rest) = keyed_number(rest, PLACES, 0, PLACE_LIMIT as u16).ok_or(LineFault::form(
+    let (places, rest) = keyed_number(rest, PLACES, 0..=PLACE_LIMIT as u16).ok_or(LineFault::form(
         before_places,
     ))?;
     let mut net = idle(heap, styles, usize::from(places))?;

@@ -1,4 +1,5 @@
-use Rattle.std.proofs.Common.{◌≡◌, [], ◌∷◌, sym, ◌∙◌, subst}
+use Rattle.std.proofs.Common.{codes, ◌≡◌, [], ◌∷◌, sym, ◌∙◌, subst}
+use Rattle.lines.proofs.NumberLines.{between}
 use Rattle.lines.proofs.Refused.{refused, allowed}
 use Rattle.std.proofs.lemmas.Result.{err_from_is_err_and}
 use Rattle.std.proofs.lemmas.Option.{MatchOption-at_none, MatchOption-at_some}
@@ -27,14 +28,14 @@ returns-in_err-named c =
     rw (p.1, p.2)
     record {
       reads_three_lines_or_tells_the_first_fault =
-          form_told _ _ _ 2 (none.1 ∙ c.form-2.ensures.is_a_fault_of_form) (fault_wheel_line c.if-text-gt-TEXT_LIMIT.false rest c.requires.a_wheel_of_a_text (opening_done _ rest opened) (no_wheel_line (MatchOption-at_none _ _ none.0 c.keyed_number.ensures.reads_a_number_after_the_key)));
+          form_told _ _ _ 2 (none.1 ∙ c.form-2.ensures.is_a_fault_of_form) (fault_wheel_line c.if-text-gt-TEXT_LIMIT.false rest c.requires.a_wheel_of_a_text (opening_done _ rest opened) (no_wheel_line (MatchOption-at_none _ _ none.0 (between (codes "wheel=") _ _ c.new.ensures.start c.new.ensures.end c.keyed_number.ensures.reads_a_number_after_the_key))));
     }
 
 pub returns-then-named-from : goal.returns-then-named-from
 returns-then-named-from c =
     let rest = c.in_ok-rest.rest.now in
     let opened = MatchOption-at_some _ _ _ (allowed _ _ _ c.in_ok-rest.ensures.value) c.literal.ensures.gives_what_follows_the_key in
-    let named = MatchOption-at_some _ _ _ (allowed _ _ _ c.in_ok-named.ensures.value) c.keyed_number.ensures.reads_a_number_after_the_key in
+    let named = MatchOption-at_some _ _ _ (allowed _ _ _ c.in_ok-named.ensures.value) (between (codes "wheel=") _ _ c.new.ensures.start c.new.ensures.end c.keyed_number.ensures.reads_a_number_after_the_key) in
     record {
       reads_three_lines_or_tells_the_first_fault =
           fault_other_wheel c.if-text-gt-TEXT_LIMIT.false c.in_ok-named.named c.in_ok-named.rest.now c.requires.a_wheel_of_a_text (wheel_done _ rest _ _ opened named) (wheel_number named) (λ same. c.if-named-from.true (same ∙ sym c.from.ensures));
@@ -46,19 +47,19 @@ returns-in_err-styles c =
     let none = refused _ _ _ c.in_err-styles.ensures.value in
     let rest = c.in_ok-rest.rest.now in
     let opened = MatchOption-at_some _ _ _ (allowed _ _ _ c.in_ok-rest.ensures.value) c.literal.ensures.gives_what_follows_the_key in
-    let named = MatchOption-at_some _ _ _ (allowed _ _ _ c.in_ok-named.ensures.value) c.keyed_number.ensures.reads_a_number_after_the_key in
+    let named = MatchOption-at_some _ _ _ (allowed _ _ _ c.in_ok-named.ensures.value) (between (codes "wheel=") _ _ c.new.ensures.start c.new.ensures.end c.keyed_number.ensures.reads_a_number_after_the_key) in
     let same : c.in_ok-named.named ≡ c.args.wheel = c.if-named-from.false ∙ c.from.ensures in
     rw (p.1, p.2)
     record {
       reads_three_lines_or_tells_the_first_fault =
-          form_told _ _ _ 3 (none.1 ∙ c.form-3.ensures.is_a_fault_of_form) (fault_styles_line c.if-text-gt-TEXT_LIMIT.false c.in_ok-named.rest.now c.requires.a_wheel_of_a_text (subst (λ w. Done c.args.text.now (_ ∷ wheel_line w ∷ []) c.in_ok-named.rest.now) same (wheel_done _ rest _ _ opened named)) (no_styles_line (MatchOption-at_none _ _ none.0 c.keyed_number-2.ensures.reads_a_number_after_the_key)));
+          form_told _ _ _ 3 (none.1 ∙ c.form-3.ensures.is_a_fault_of_form) (fault_styles_line c.if-text-gt-TEXT_LIMIT.false c.in_ok-named.rest.now c.requires.a_wheel_of_a_text (subst (λ w. Done c.args.text.now (_ ∷ wheel_line w ∷ []) c.in_ok-named.rest.now) same (wheel_done _ rest _ _ opened named)) (no_styles_line (MatchOption-at_none _ _ none.0 (between (codes "styles=") _ _ c.new-2.ensures.start c.new-2.ensures.end c.keyed_number-2.ensures.reads_a_number_after_the_key))));
     }
 
 pub returns : goal.returns
 returns c =
     let rest = c.in_ok-rest.rest.now in
     let opened = MatchOption-at_some _ _ _ (allowed _ _ _ c.in_ok-rest.ensures.value) c.literal.ensures.gives_what_follows_the_key in
-    let named = MatchOption-at_some _ _ _ (allowed _ _ _ c.in_ok-named.ensures.value) c.keyed_number.ensures.reads_a_number_after_the_key in
-    let counted = MatchOption-at_some _ _ _ (allowed _ _ _ c.in_ok-styles.ensures.value) c.keyed_number-2.ensures.reads_a_number_after_the_key in
+    let named = MatchOption-at_some _ _ _ (allowed _ _ _ c.in_ok-named.ensures.value) (between (codes "wheel=") _ _ c.new.ensures.start c.new.ensures.end c.keyed_number.ensures.reads_a_number_after_the_key) in
+    let counted = MatchOption-at_some _ _ _ (allowed _ _ _ c.in_ok-styles.ensures.value) (between (codes "styles=") _ _ c.new-2.ensures.start c.new-2.ensures.end c.keyed_number-2.ensures.reads_a_number_after_the_key) in
     let lines = three_lines _ _ _ _ _ _ _ _ opened named counted (c.if-named-from.false ∙ c.from.ensures) c.from-2.ensures in
     record { reads_three_lines_or_tells_the_first_fault = (lines.0, c.if-text-gt-TEXT_LIMIT.false, lines.1) }

@@ -9,20 +9,18 @@ use Rattle.net_reading.proofs.SoFar.{place_more, places_break, places_all}
 use Rattle.net_reading.proofs.nets.read_places.Given as given
 use Rattle.net_reading.proofs.nets.read_places.Goals as goal
 
-lawful : (g : given.Over) → Lawful g.W.Wheel
-lawful g = let laws = g.met.W.Wheel in record { from_two = laws.at_least_two; to_nine = laws.at_most_nine; below = laws.numbers_are_below_the_order }
 
-pub overflow_add-len-in-loop-place : goal.overflow_add-len-in-loop-place
-overflow_add-len-in-loop-place g c =
+-- the number of a place's line is small
+small : (g : given.Over) (c : goal.After-cells-1 g) → 5 + length c.place_line.new.cells + c.loop-place.place < 1000
+small g c =
     let good = proper g.W.Wheel g.met.W.Wheel.laws c.args.net.now in
-    let small : 5 + c.len.result + c.loop-place.place < 1000 = omega (arith, good.few_styles, good.few_places, c.loop-place.invariant.one_cell_each, c.place_line.ensures.as_many_cells_as_before) in
-    search rules
+    omega (arith, good.few_styles, good.few_places, c.loop-place.invariant.one_cell_each, c.place_line.ensures.as_many_cells_as_before)
 
-pub overflow_cast-len : goal.overflow_cast-len
-overflow_cast-len g c =
-    let good = proper g.W.Wheel g.met.W.Wheel.laws c.args.net.now in
-    let small : 5 + c.len.result + c.loop-place.place < 1000 = omega (arith, good.few_styles, good.few_places, c.loop-place.invariant.one_cell_each, c.place_line.ensures.as_many_cells_as_before) in
-    search rules
+pub overflow_add-cells-in-loop-place : goal.overflow_add-cells-in-loop-place
+overflow_add-cells-in-loop-place g c = let few = small g c in search rules
+
+pub overflow_cast-cells : goal.overflow_cast-cells
+overflow_cast-cells g c = let few = small g c in search rules
 
 pub returns-in_err-start : goal.returns-in_err-start
 returns-in_err-start g c =
@@ -33,7 +31,7 @@ returns-in_err-start g c =
       reads_every_place_or_tells_where_they_break_off =
           places_break c.loop-place.invariant (proper g.W.Wheel g.met.W.Wheel.laws c.loop-place.net) refl c.in_err-start.field-0.0 (omega (arith, c.places-place-end.ensures.counts_the_places))
           (MatchOption-at_none _ _ none.0 c.place_line.ensures.reads_a_places_line)
-          (none.1 ∙ ap (λ (n : ℕ). record { line = 5 + n + c.loop-place.place; cause = Form }) (c.len.ensures ∙ c.place_line.ensures.as_many_cells_as_before));
+          (none.1 ∙ c.form.ensures.is_a_fault_of_form ∙ ap (λ (n : ℕ). record { line = 5 + n + c.loop-place.place; cause = Form }) c.place_line.ensures.as_many_cells_as_before);
     }
 
 pub loop-place-preserved : goal.loop-place-preserved

@@ -1,4 +1,4 @@
-use Rattle.std.proofs.Common.{◌≡◌, map, length, vec_items, sym, refl, ap, ◌∙◌, arith, ltb-false, ltb-true}
+use Rattle.std.proofs.Common.{◌≡◌, map, length, refl, ap, ◌∙◌, arith, ltb-false, ltb-true}
 use Rattle.lines.proofs.FirstBytes.{after, opened, first}
 use Rattle.std.proofs.lemmas.List.{length-map}
 use Rattle.net.specs.Views.{cell_of}
@@ -36,8 +36,8 @@ returns-in-10 g c =
 pub returns-in_default-2 : goal.returns-in_default-2
 returns-in_default-2 g c =
     let left = c.in_ok-literal.field-0.now in
-    let cells = vec_items c.read_cells.new.cells in
-    let count : length (map (cell_of g.W.Wheel) cells) ≡ _ = length-map cells (cell_of g.W.Wheel) ∙ sym c.read_cells.new.cells.ok.0 ∙ c.in_ok-read_cells.ensures.as_many_cells_as_before in
+    let cells = c.read_cells.new.cells in
+    let count : length (map (cell_of g.W.Wheel) cells) ≡ _ = length-map cells (cell_of g.W.Wheel) ∙ c.in_ok-read_cells.ensures.as_many_cells_as_before in
     record {
       reads_a_places_line =
           no_end c.in_ok-literal.ensures.gives_what_follows_the_key (opened left _ (omega (arith, ltb-false)) refl) (map (cell_of g.W.Wheel) cells) c.in_ok-read_cells.field-0.now c.in_ok-read_cells.ensures.reads_every_cell count

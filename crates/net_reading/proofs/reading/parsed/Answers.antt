@@ -1,4 +1,5 @@
-use Rattle.std.proofs.Common.{◌≡◌, ◌+◌, length, sym, ap, ◌∙◌, subst, arith}
+use Rattle.std.proofs.Common.{codes, ◌≡◌, ◌+◌, length, sym, ap, ◌∙◌, subst, arith}
+use Rattle.lines.proofs.NumberLines.{between}
 use Rattle.lines.proofs.Refused.{refused, allowed}
 use Rattle.std.proofs.lemmas.Result.{err_from_is_err_and}
 use Rattle.std.proofs.lemmas.Option.{MatchOption-at_none, MatchOption-at_some}
@@ -11,11 +12,7 @@ use Rattle.net_reading.specs.Owed.{PlacesBreak, PlacesOpen}
 use Rattle.net_reading.specs.Reading.{NoEnd}
 use Rattle.net_reading.proofs.Parsing.{names_fault, places_line_fault, places_fault, end_fault, whole_text}
 use Rattle.net_reading.proofs.Sizes.{three_read, idle_styles, idle_places}
-use Rattle.net_reading.proofs.reading.parsed.Given as given
 use Rattle.net_reading.proofs.reading.parsed.Goals as goal
-
-lawful : (g : given.Over) → Lawful g.W.Wheel
-lawful g = let laws = g.met.W.Wheel in record { from_two = laws.at_least_two; to_nine = laws.at_most_nine; below = laws.numbers_are_below_the_order }
 
 pub returns-in_err-rest : goal.returns-in_err-rest
 returns-in_err-rest g c =
@@ -35,7 +32,7 @@ returns-in_err-places g c =
     rw (p.1, p.2)
     record {
       reads_the_net_or_tells_the_first_fault =
-          places_line_fault three (names_formed c.read_names.new.sheet) names.0 names.1 c.in_err-places.field-0.0 (none.1 ∙ c.form.ensures.is_a_fault_of_form) (MatchOption-at_none _ _ none.0 c.keyed_number.ensures.reads_a_number_after_the_key);
+          places_line_fault three (names_formed c.read_names.new.sheet) names.0 names.1 c.in_err-places.field-0.0 (none.1 ∙ c.form.ensures.is_a_fault_of_form) (MatchOption-at_none _ _ none.0 (between (codes "places=") _ _ c.new.ensures.start c.new.ensures.end c.keyed_number.ensures.reads_a_number_after_the_key));
     }
 
 pub returns-in_err-rest-2 : goal.returns-in_err-rest-2
@@ -44,7 +41,7 @@ returns-in_err-rest-2 g c =
     let p = err_from_is_err_and c.from_residual-in_err-rest-2.result c.from_residual-in_err-rest-2.ensures.1 in
     let three = three_read w g.met.W.Wheel.laws c.positions.result c.in_ok-styles.styles c.args.text.now c.in_ok-styles.rest.now c.positions.ensures.is_the_order c.in_ok-styles.ensures.reads_three_lines_or_tells_the_first_fault in
     let names = c.in_ok-rest.ensures.reads_every_name_or_tells_where_they_break_off in
-    let counted = MatchOption-at_some _ _ _ (allowed _ _ _ c.in_ok-places.ensures.value) c.keyed_number.ensures.reads_a_number_after_the_key in
+    let counted = MatchOption-at_some _ _ _ (allowed _ _ _ c.in_ok-places.ensures.value) (between (codes "places=") _ _ c.new.ensures.start c.new.ensures.end c.keyed_number.ensures.reads_a_number_after_the_key) in
     let idle = c.in_ok-net.ensures.made_idle_or_out_of_memory in
     let styles = idle_styles w c.in_ok-net.net _ _ idle in
     let places = idle_places w c.in_ok-net.net _ _ _ idle c.from.ensures in
@@ -63,7 +60,7 @@ returns-in_err-read_end g c =
     let p = err_from_is_err_and c.from_residual-in_err-read_end.result c.from_residual-in_err-read_end.ensures.1 in
     let three = three_read w g.met.W.Wheel.laws c.positions.result c.in_ok-styles.styles c.args.text.now c.in_ok-styles.rest.now c.positions.ensures.is_the_order c.in_ok-styles.ensures.reads_three_lines_or_tells_the_first_fault in
     let names = c.in_ok-rest.ensures.reads_every_name_or_tells_where_they_break_off in
-    let counted = MatchOption-at_some _ _ _ (allowed _ _ _ c.in_ok-places.ensures.value) c.keyed_number.ensures.reads_a_number_after_the_key in
+    let counted = MatchOption-at_some _ _ _ (allowed _ _ _ c.in_ok-places.ensures.value) (between (codes "places=") _ _ c.new.ensures.start c.new.ensures.end c.keyed_number.ensures.reads_a_number_after_the_key) in
     let idle = c.in_ok-net.ensures.made_idle_or_out_of_memory in
     let styles = idle_styles w c.in_ok-net.net _ _ idle in
     let places = idle_places w c.in_ok-net.net _ _ _ idle c.from.ensures in
@@ -84,7 +81,7 @@ returns g c =
     let w = g.W.Wheel in
     let three = three_read w g.met.W.Wheel.laws c.positions.result c.in_ok-styles.styles c.args.text.now c.in_ok-styles.rest.now c.positions.ensures.is_the_order c.in_ok-styles.ensures.reads_three_lines_or_tells_the_first_fault in
     let names = c.in_ok-rest.ensures.reads_every_name_or_tells_where_they_break_off in
-    let counted = MatchOption-at_some _ _ _ (allowed _ _ _ c.in_ok-places.ensures.value) c.keyed_number.ensures.reads_a_number_after_the_key in
+    let counted = MatchOption-at_some _ _ _ (allowed _ _ _ c.in_ok-places.ensures.value) (between (codes "places=") _ _ c.new.ensures.start c.new.ensures.end c.keyed_number.ensures.reads_a_number_after_the_key) in
     let idle = c.in_ok-net.ensures.made_idle_or_out_of_memory in
     let styles = idle_styles w c.in_ok-net.net _ _ idle in
     let places = idle_places w c.in_ok-net.net _ _ _ idle c.from.ensures in

@@ -3,11 +3,7 @@ use Rattle.std.proofs.lemmas.Result.{err_from_is_err_and}
 use Rattle.std.proofs.lemmas.Bool.{false≢true}
 use Rattle.net_reading.specs.Reading.{taken}
 use Rattle.net_reading.proofs.Exactly.{refused_exactly, accepted_exactly, refused_by}
-use Rattle.net_reading.proofs.reading.read.Given as given
 use Rattle.net_reading.proofs.reading.read.Goals as goal
-
-lawful : (g : given.Over) → Lawful g.W.Wheel
-lawful g = let laws = g.met.W.Wheel in record { from_two = laws.at_least_two; to_nine = laws.at_most_nine; below = laws.numbers_are_below_the_order }
 
 pub returns-in_err-net_read : goal.returns-in_err-net_read
 returns-in_err-net_read g c =
