@@ -6,6 +6,8 @@ use Rattle.lines.specs.declared.faults.Cause.{Cause}
 use Rattle.lines.specs.declared.faults.Cause.TheVariants.{Form, Name}
 use Rattle.lines.specs.declared.faults.LineFault.{LineFault}
 use Rattle.sheet.specs.Adding.{NoneEqual}
+use Rattle.sheet.specs.Views.{names_of}
+use Rattle.sheet.specs.declared.sheets.Sheet.{Sheet as Names}
 use Rattle.texts.specs.Forms.{style_line}
 use Rattle.texts.specs.Lines.{text_of}
 use Rattle.texts.specs.Names.{Sheet}
@@ -30,7 +32,7 @@ pub record NamesBreak (n : ℕ) (bytes : List ℕ) (fault : LineFault) : Type 0 
   pub line : fault.line ≡ suc (3 + length names)
   pub none : NoNewStyle names rest fault.cause
 
--- n names, whose style lines the bytes open with, or the line where they break off
-abbrev pub NamesOwe : ℕ → List ℕ → List (List ℕ) → Result (Bor (List ℕ)) LineFault → Type 0
-NamesOwe n bytes names (Ok rest) = (length names ≡ n) × (bytes ≡ text_of (map style_line names) ++ rest.now)
-NamesOwe n bytes names (Err fault) = NamesBreak n bytes fault
+-- a sheet of n names, whose style lines the bytes open with, or the line where they break off
+abbrev pub NamesOwe : ℕ → List ℕ → Result (Names × Bor (List ℕ)) LineFault → Type 0
+NamesOwe n bytes (Ok (sheet, rest)) = (length (names_of sheet) ≡ n) × (bytes ≡ text_of (map style_line (names_of sheet)) ++ rest.now)
+NamesOwe n bytes (Err fault) = NamesBreak n bytes fault

@@ -1,5 +1,5 @@
 // Reading the style lines into a sheet.
-ghost use Rattle.std.specs.Prelude.{◌≡◌, ◌<◌, ◌≤◌, [], length};
+ghost use Rattle.std.specs.Prelude.{◌<◌, ◌≤◌, length};
 ghost use Rattle.net_reading.specs.Names.{StyleOwes, NamesOwe};
 ghost use Rattle.sheet.specs.Views.{names_of};
 ghost use Rattle.theory.specs.Limits.{style_limit};
@@ -22,19 +22,15 @@ fn read_style<'a>(bytes: &'a [u8], line: u32, sheet: &mut Sheet) -> Result<&'a [
     Ok(rest)
 }
 
-// Reads the style lines into a blank sheet, and answers the bytes after them.
-pub(crate) fn read_names<'a>(
-    bytes: &'a [u8],
-    styles: usize,
-    sheet: &mut Sheet,
-) -> Result<&'a [u8], LineFault>
-    requires a_blank_sheet { names_of sheet.old ≡ [] }
+// Reads the style lines into a sheet, and answers it and the bytes after them.
+pub(crate) fn read_names<'a>(bytes: &'a [u8], styles: usize) -> Result<(Sheet, &'a [u8]), LineFault>
     requires few_styles { styles ≤ style_limit }
-    ensures reads_every_name_or_tells_where_they_break_off { NamesOwe styles bytes.now (names_of sheet.new) result }
+    ensures reads_every_name_or_tells_where_they_break_off { NamesOwe styles bytes.now result }
 {
+    let mut sheet = Sheet::blank();
     let mut rest = bytes;
     for style in 0..styles {
-        rest = read_style(rest, (4 + style) as u32, sheet)?;
+        rest = read_style(rest, (4 + style) as u32, &mut sheet)?;
     }
-    Ok(rest)
+    Ok((sheet, rest))
 }

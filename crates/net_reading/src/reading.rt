@@ -35,8 +35,7 @@ fn parsed<W: Wheel>(heap: Global, text: &[u8]) -> Result<(Net<W>, Sheet), TextFa
     ensures reads_the_net_or_tells_the_first_fault { Parsed W.Wheel text.now result }
 {
     let (styles, rest) = read_head(text, W::positions())?;
-    let mut sheet = Sheet::blank();
-    let rest = read_names(rest, styles, &mut sheet)?;
+    let (sheet, rest) = read_names(rest, styles)?;
     let before_places = 4 + styles as u32;
     let (places, rest) = keyed_number(rest, PLACES, 0..=PLACE_LIMIT as u16).ok_or(LineFault::form(
         before_places,

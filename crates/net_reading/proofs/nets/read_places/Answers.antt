@@ -9,7 +9,6 @@ use Rattle.net_reading.proofs.SoFar.{place_more, places_break, places_all}
 use Rattle.net_reading.proofs.nets.read_places.Given as given
 use Rattle.net_reading.proofs.nets.read_places.Goals as goal
 
-
 -- the number of a place's line is small
 small : (g : given.Over) (c : goal.After-cells-1 g) → 5 + length c.place_line.new.cells + c.loop-place.place < 1000
 small g c =

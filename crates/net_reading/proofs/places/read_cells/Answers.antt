@@ -26,8 +26,8 @@ loop-slot-preserved g c =
     let within : style < length items = omega (arith, c.loop-slot.auto.cells) in
     let more : map (cell_of g.W.Wheel) (take (style + 1) (set items style one)) ≡ map (cell_of g.W.Wheel) (take style items) ++ (cell_of g.W.Wheel one ∷ []) =
     ap (map (cell_of g.W.Wheel)) (take_more_set items style one within) ∙ map_push (cell_of g.W.Wheel) (take style items) one in
-      cells_more (map (cell_of g.W.Wheel) (take style items)) (cell_of g.W.Wheel one) c.args.bytes.now c.loop-slot.rest.now c.in_ok-read.after.now c.loop-slot.invariant c.in_ok-read.ensures.reads_a_cell_of_the_wheel
-          ∙ ap (λ cs. flat_map cell_bytes cs ++ c.in_ok-read.after.now) (sym more)
+    cells_more (map (cell_of g.W.Wheel) (take style items)) (cell_of g.W.Wheel one) c.args.bytes.now c.loop-slot.rest.now c.in_ok-read.after.now c.loop-slot.invariant c.in_ok-read.ensures.reads_a_cell_of_the_wheel
+    ∙ ap (λ cs. flat_map cell_bytes cs ++ c.in_ok-read.after.now) (sym more)
 
 pub returns : goal.returns
 returns g c =
