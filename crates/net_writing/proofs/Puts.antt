@@ -1,62 +1,54 @@
 -- Bytes put into a buffer one after the other. Assumes nothing.
-use Rattle.std.proofs.Common.{◌≡◌, ℕ, ◌+◌, ◌<◌, ◌≤◌, List, [], ◌++◌, length, get_or, take, drop, sym, ap, ◌∙◌, subst, ap₂, arith}
-use Rattle.std.proofs.lemmas.List.{append_assoc, length-append, length-take-le, length-drop, take_at, drop_at, drop-drop, take_all, take-append-drop}
+use Rattle.std.proofs.Common.{◌≡◌, ℕ, ◌+◌, ◌<◌, ◌≤◌, List, [], ◌++◌, length, get_or, take, drop, refl, sym, ap, ◌∙◌, subst, ap₂, arith}
+use Rattle.std.proofs.lemmas.List.{append_assoc, append-nil, length-append, length-drop, drop-drop, take_all, take-append-drop}
 use Rattle.std.specs.List.{flat_map}
-use Rattle.net_writing.specs.Putting.{Puts}
+use Rattle.net_writing.specs.Putting.{Puts, Room, written, left}
+use Rattle.net_writing.specs.declared.cursors.Cursor.{Cursor}
 use Rattle.net_writing.proofs.Joins.{joined_next_le, joined_take_more}
 
 -- no bytes
-pub puts_none : (before : List ℕ) (at : ℕ) → at ≤ length before → Puts before at [] before at
-puts_none before at h = record { room = omega arith; ends = omega arith; holds = sym (take-append-drop at before) }
+pub puts_none : (cursor : Cursor) → Puts cursor [] cursor
+puts_none cursor = record { same_buffer = refl; writes = sym (append-nil (written cursor)); leaves = refl }
 
--- the buffer keeps its length
-pub puts_length : (before : List ℕ) (at : ℕ) (bytes after : List ℕ) (end : ℕ) → Puts before at bytes after end → length after ≡ length before
-puts_length before at bytes after end p =
-    ap length p.holds
-    ∙ length-append (take at before) (bytes ++ drop end before)
-    ∙ omega (arith, length-append bytes (drop end before), length-drop end before, length-take-le at before (omega arith), p.room, p.ends)
+-- where all bytes have room, the first have
+pub room_first : {cursor : Cursor} {first : List ℕ} (second : List ℕ) → Room cursor (first ++ second) → Room cursor first
+room_first {first = first} second room = record { fits = omega (arith, room.fits, length-append first second) }
 
--- what stands before the end, and what stands from it on
-pub puts_front : (before : List ℕ) (at : ℕ) (bytes after : List ℕ) (end : ℕ) → Puts before at bytes after end → take end after ≡ take at before ++ bytes
-puts_front before at bytes after end p =
-    ap (take end) (p.holds ∙ sym (append_assoc (take at before) bytes (drop end before)))
-    ∙ take_at (take at before ++ bytes) (drop end before) end (length-append (take at before) bytes ∙ omega (arith, length-take-le at before (omega arith), p.ends))
-
-pub puts_back : (before : List ℕ) (at : ℕ) (bytes after : List ℕ) (end more : ℕ) → Puts before at bytes after end → drop (end + more) after ≡ drop (end + more) before
-puts_back before at bytes after end more p =
-    sym (drop-drop more end after)
-    ∙ ap (drop more)
-    (ap (drop end) (p.holds ∙ sym (append_assoc (take at before) bytes (drop end before)))
-    ∙ drop_at (take at before ++ bytes) (drop end before) end (length-append (take at before) bytes ∙ omega (arith, length-take-le at before (omega arith), p.ends)))
-    ∙ drop-drop more end before
-
--- bytes put after bytes
-pub puts_then : (before : List ℕ) (at : ℕ) (first mid : List ℕ) (between : ℕ) (second after : List ℕ) (end : ℕ) → Puts before at first mid between → Puts mid between second after end → Puts before at (first ++ second) after end
-puts_then before at first mid between second after end p q = record {
-  room = omega (arith, length-append first second, puts_length before at first mid between p, p.ends, q.room);
-  ends = omega (arith, length-append first second, p.ends, q.ends);
-  holds =
-      q.holds
-      ∙ ap₂ (λ front back. front ++ (second ++ back)) (puts_front before at first mid between p)
-      (ap (λ n. drop n mid) q.ends ∙ puts_back before at first mid between (length second) p ∙ ap (λ n. drop n before) (sym q.ends))
-      ∙ append_assoc (take at before) first (second ++ drop end before)
-      ∙ ap (λ bs. take at before ++ bs) (sym (append_assoc first second (drop end before)));
+-- and so have the others after them
+pub room_then : {before mid : Cursor} {first second : List ℕ} → Puts before first mid → Room before (first ++ second) → Room mid second
+room_then {before} {first = first} {second} p room = record {
+  fits = omega (arith, room.fits, length-append first second, ap length p.leaves, length-drop (length first) (left before));
 }
 
--- the same bytes under another name
-pub puts_same : (before : List ℕ) (at : ℕ) (bytes bytes' after : List ℕ) (end : ℕ) → bytes ≡ bytes' → Puts before at bytes after end → Puts before at bytes' after end
-puts_same before at bytes bytes' after end e p = subst (λ bs. Puts before at bs after end) e p
+-- bytes put after bytes
+pub puts_then : {before mid after : Cursor} {first second : List ℕ} → Puts before first mid → Puts mid second after → Puts before (first ++ second) after
+puts_then {before} {first = first} {second} p q = record {
+  same_buffer = q.same_buffer ∙ p.same_buffer;
+  writes = q.writes ∙ ap (λ bs. bs ++ second) p.writes ∙ append_assoc (written before) first second;
+  leaves =
+      q.leaves ∙ ap (drop (length second)) p.leaves
+      ∙ drop-drop (length second) (length first) (left before)
+      ∙ ap (λ n. drop n (left before)) (sym (length-append first second));
+}
 
-module _ {X : Type 0} (f : X → List ℕ) (xs : List X) (before : List ℕ) (at : ℕ) where
-  -- where there is room for all of a row of pieces, there is room for the next
-  pub room_next : (i : ℕ) (d : X) (mid : List ℕ) (between : ℕ) → i < length xs → at + length (flat_map f xs) ≤ length before → Puts before at (flat_map f (take i xs)) mid between → between + length (f (get_or xs i d)) ≤ length mid
-  room_next i d mid between h room p = omega (arith, joined_next_le f xs i d h, p.ends, puts_length before at (flat_map f (take i xs)) mid between p)
+-- all that a buffer holds, once the bytes were put at its front
+pub puts_front : {before after : Cursor} (bytes : List ℕ) → before.at ≡ 0 → Puts before bytes after → after.buffer.now ≡ bytes ++ drop (length bytes) before.buffer.now
+puts_front {before} {after} bytes front p =
+    sym (take-append-drop after.at after.buffer.now)
+    ∙ ap₂ ◌++◌ (p.writes ∙ ap (λ at. take at before.buffer.now ++ bytes) front) (p.leaves ∙ ap (λ at. drop (length bytes) (drop at before.buffer.now)) front)
+
+module _ {X : Type 0} (f : X → List ℕ) (xs : List X) {before : Cursor} where
+  -- where all pieces of a row have room, the next has
+  pub room_next : {mid : Cursor} (i : ℕ) (d : X) → i < length xs → Room before (flat_map f xs) → Puts before (flat_map f (take i xs)) mid → Room mid (f (get_or xs i d))
+  room_next i d h room p = record {
+    fits = omega (arith, room.fits, joined_next_le f xs i d h, ap length p.leaves, length-drop (length (flat_map f (take i xs))) (left before));
+  }
 
   -- one piece more
-  pub puts_more : (i : ℕ) (d : X) (mid : List ℕ) (between : ℕ) (after : List ℕ) (end : ℕ) → i < length xs → Puts before at (flat_map f (take i xs)) mid between → Puts mid between (f (get_or xs i d)) after end → Puts before at (flat_map f (take (i + 1) xs)) after end
-  puts_more i d mid between after end h p q =
-      puts_same before at _ _ after end (sym (joined_take_more f xs i d h)) (puts_then before at (flat_map f (take i xs)) mid between (f (get_or xs i d)) after end p q)
+  pub puts_more : {mid after : Cursor} (i : ℕ) (d : X) → i < length xs → Puts before (flat_map f (take i xs)) mid → Puts mid (f (get_or xs i d)) after → Puts before (flat_map f (take (i + 1) xs)) after
+  puts_more {after = after} i d h p q =
+      subst (λ bytes. Puts before bytes after) (sym (joined_take_more f xs i d h)) (puts_then p q)
 
   -- all pieces
-  pub puts_all : (i : ℕ) (after : List ℕ) (end : ℕ) → length xs ≤ i → Puts before at (flat_map f (take i xs)) after end → Puts before at (flat_map f xs) after end
-  puts_all i after end h p = puts_same before at _ _ after end (ap (flat_map f) (take_all i xs h)) p
+  pub puts_all : {after : Cursor} (i : ℕ) → length xs ≤ i → Puts before (flat_map f (take i xs)) after → Puts before (flat_map f xs) after
+  puts_all {after} i h p = subst (λ bytes. Puts before bytes after) (ap (flat_map f) (take_all i xs h)) p

@@ -1,10 +1,10 @@
 // Write: the text of a net and the names of its styles.
 #![tactic(auto)]
 
+mod cursors;
 mod names;
 mod numbers;
 mod places;
-mod putting;
 pub mod refusals;
 mod text;
 pub mod writing;

@@ -1,12 +1,12 @@
 // The lines of the style names.
-ghost use Rattle.std.specs.Prelude.{◌≡◌, ◌+◌, ◌≤◌, length};
+ghost use Rattle.std.specs.Prelude.{◌≡◌, length};
 ghost use Rattle.net_writing.specs.Blocks.{name_lines};
-ghost use Rattle.net_writing.specs.Putting.{Puts};
+ghost use Rattle.net_writing.specs.Putting.{Puts, Room};
 ghost use Rattle.sheet.specs.Views.{names_of};
 ghost use Rattle.texts.specs.Forms.{style_line};
 ghost use Rattle.texts.specs.Lines.{ended};
 
-use crate::putting::put;
+use crate::cursors::Cursor;
 use lines::keys::STYLE;
 use sheet::sheets::Sheet;
 
@@ -14,35 +14,29 @@ use sheet::sheets::Sheet;
 pub(crate) fn names_length(sheet: &Sheet) -> usize
     ensures counts_the_bytes { result ≡ length (name_lines (names_of sheet.now)) }
 {
-    let mut bytes = 0;
-    let mut style = 0;
-    while let Some(name) = sheet.name(style) {
-        bytes += STYLE.len() + name.len() + 1;
-        style += 1;
-    }
-    bytes
+    sheet
+        .names()
+        .iter()
+        .map(|name| STYLE.len() + name.bytes().len() + 1)
+        .sum()
 }
 
 // Puts the line of a name.
-fn put_name(buffer: &mut [u8], at: usize, name: &[u8]) -> usize
-    requires room { at + length (ended (style_line name.now)) ≤ length buffer.old }
-    ensures puts_the_line { Puts buffer.old at (ended (style_line name.now)) buffer.new result }
+fn put_name(cursor: &mut Cursor<'_>, name: &[u8])
+    requires room { Room cursor.old (ended (style_line name.now)) }
+    ensures puts_the_line { Puts cursor.old (ended (style_line name.now)) cursor.new }
 {
-    let at = put(buffer, at, STYLE);
-    let at = put(buffer, at, name);
-    put(buffer, at, b"\n")
+    cursor.put(STYLE);
+    cursor.put(name);
+    cursor.put(b"\n");
 }
 
 // Puts the lines of all names.
-pub(crate) fn put_names(buffer: &mut [u8], at: usize, sheet: &Sheet) -> usize
-    requires room { at + length (name_lines (names_of sheet.now)) ≤ length buffer.old }
-    ensures puts_the_lines { Puts buffer.old at (name_lines (names_of sheet.now)) buffer.new result }
+pub(crate) fn put_names(cursor: &mut Cursor<'_>, sheet: &Sheet)
+    requires room { Room cursor.old (name_lines (names_of sheet.now)) }
+    ensures puts_the_lines { Puts cursor.old (name_lines (names_of sheet.now)) cursor.new }
 {
-    let mut end = at;
-    let mut style = 0;
-    while let Some(name) = sheet.name(style) {
-        end = put_name(buffer, end, name);
-        style += 1;
+    for name in sheet.names() {
+        put_name(cursor, name.bytes());
     }
-    end
 }

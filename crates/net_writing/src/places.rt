@@ -1,14 +1,14 @@
 // The lines of the places.
-ghost use Rattle.std.specs.Prelude.{◌≡◌, ◌+◌, ◌<◌, ◌≤◌, length};
+ghost use Rattle.std.specs.Prelude.{◌≡◌, ◌<◌, length};
 ghost use Rattle.net.specs.Views.{view, cell_of};
 ghost use Rattle.net_writing.specs.Blocks.{place_lines};
-ghost use Rattle.net_writing.specs.Putting.{Puts};
+ghost use Rattle.net_writing.specs.Putting.{Puts, Room};
 ghost use Rattle.std.specs.List.{flat_map};
 ghost use Rattle.texts.specs.Lines.{ended};
 ghost use Rattle.texts.specs.NetText.{cell_bytes, digit as digit_of, place_line};
 ghost use Rattle.theory.specs.Nets.{place as place_number};
 
-use crate::putting::put;
+use crate::cursors::Cursor;
 use lines::keys::PLACE;
 use net::cells::Cell;
 use net::nets::Net;
@@ -29,55 +29,43 @@ pub(crate) fn places_length<W: Wheel>(net: &Net<W>) -> usize
 }
 
 // Puts a cell.
-fn put_cell<W: Wheel>(buffer: &mut [u8], at: usize, cell: Cell<W>) -> usize
-    requires room { at + length (cell_bytes (cell_of W.Wheel cell)) ≤ length buffer.old }
-    ensures puts_the_cell { Puts buffer.old at (cell_bytes (cell_of W.Wheel cell)) buffer.new result }
+fn put_cell<W: Wheel>(cursor: &mut Cursor<'_>, cell: Cell<W>)
+    requires room { Room cursor.old (cell_bytes (cell_of W.Wheel cell)) }
+    ensures puts_the_cell { Puts cursor.old (cell_bytes (cell_of W.Wheel cell)) cursor.new }
 {
-    let wanted = match cell.wanted {
-        Some(wanted) => digit_byte(wanted),
-        None => b'.',
-    };
-    put(buffer, at, &[b' ', wanted, digit_byte(cell.turn)])
+    let wanted = cell.wanted.map_or(b'.', digit_byte);
+    cursor.put(&[b' ', wanted, digit_byte(cell.turn)]);
 }
 
 // Puts the cells of a place.
-fn put_cells<W: Wheel>(buffer: &mut [u8], at: usize, net: &Net<W>, place: usize) -> usize
+fn put_cells<W: Wheel>(cursor: &mut Cursor<'_>, net: &Net<W>, place: usize)
     requires there_is_such_a_place { place < length (view W.Wheel net.now).places }
-    requires room { at + length (flat_map cell_bytes (place_number (view W.Wheel net.now) place).cells) ≤ length buffer.old }
-    ensures puts_the_cells { Puts buffer.old at (flat_map cell_bytes (place_number (view W.Wheel net.now) place).cells) buffer.new result }
+    requires room { Room cursor.old (flat_map cell_bytes (place_number (view W.Wheel net.now) place).cells) }
+    ensures puts_the_cells { Puts cursor.old (flat_map cell_bytes (place_number (view W.Wheel net.now) place).cells) cursor.new }
 {
-    let mut end = at;
-    let mut style = 0;
-    while let Some(cell) = net.cell(place, style) {
-        end = put_cell(buffer, end, cell);
-        style += 1;
+    for style in 0..net.styles() {
+        put_cell(cursor, net.cell(place, style).unwrap());
     }
-    end
 }
 
-// Puts the line of a place that starts at `start`.
-fn put_place<W: Wheel>(buffer: &mut [u8], at: usize, net: &Net<W>, place: usize, start: W) -> usize
+// Puts the line of a place.
+fn put_place<W: Wheel>(cursor: &mut Cursor<'_>, net: &Net<W>, place: usize)
     requires there_is_such_a_place { place < length (view W.Wheel net.now).places }
-    requires starts_there { W.Wheel.number start ≡ (place_number (view W.Wheel net.now) place).start }
-    requires room { at + length (ended (place_line (place_number (view W.Wheel net.now) place))) ≤ length buffer.old }
-    ensures puts_the_line { Puts buffer.old at (ended (place_line (place_number (view W.Wheel net.now) place))) buffer.new result }
+    requires room { Room cursor.old (ended (place_line (place_number (view W.Wheel net.now) place))) }
+    ensures puts_the_line { Puts cursor.old (ended (place_line (place_number (view W.Wheel net.now) place))) cursor.new }
 {
-    let at = put(buffer, at, PLACE);
-    let at = put(buffer, at, &[digit_byte(start)]);
-    let at = put_cells(buffer, at, net, place);
-    put(buffer, at, b"\n")
+    cursor.put(PLACE);
+    cursor.put(&[digit_byte(net.start(place).unwrap())]);
+    put_cells(cursor, net, place);
+    cursor.put(b"\n");
 }
 
 // Puts the lines of all places.
-pub(crate) fn put_places<W: Wheel>(buffer: &mut [u8], at: usize, net: &Net<W>) -> usize
-    requires room { at + length (place_lines (view W.Wheel net.now).places) ≤ length buffer.old }
-    ensures puts_the_lines { Puts buffer.old at (place_lines (view W.Wheel net.now).places) buffer.new result }
+pub(crate) fn put_places<W: Wheel>(cursor: &mut Cursor<'_>, net: &Net<W>)
+    requires room { Room cursor.old (place_lines (view W.Wheel net.now).places) }
+    ensures puts_the_lines { Puts cursor.old (place_lines (view W.Wheel net.now).places) cursor.new }
 {
-    let mut end = at;
-    let mut place = 0;
-    while let Some(start) = net.start(place) {
-        end = put_place(buffer, end, net, place, start);
-        place += 1;
+    for place in 0..net.places() {
+        put_place(cursor, net, place);
     }
-    end
 }

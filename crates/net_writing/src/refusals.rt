@@ -1,6 +1,6 @@
 // Why Write was refused.
 
-#[derive(Clone, Copy, Debug)]
+#[derive(Clone, Copy, Debug, PartialEq, Eq)]
 pub enum WriteRefusal {
     // How many names the sheet has, and how many styles the net: not as many.
     StyleCounts { sheet: usize, net: usize },

@@ -5,6 +5,7 @@ ghost use Rattle.net_writing.specs.Writing.{WriteOwes};
 ghost use Rattle.sheet.specs.Views.{names_of};
 ghost use Rattle.std.specs.Prelude.{◌≡◌, true, length, is_err};
 
+use crate::cursors::Cursor;
 use crate::refusals::WriteRefusal;
 use crate::text::{put_text, text_length};
 use net::nets::Net;
@@ -33,5 +34,6 @@ pub fn write<W: Wheel>(
     if buffer.len() < needed {
         return Err(WriteRefusal::BufferTooShort(needed));
     }
-    Ok(put_text(buffer, net, sheet))
+    put_text(&mut Cursor::new(buffer), net, sheet);
+    Ok(needed)
 }

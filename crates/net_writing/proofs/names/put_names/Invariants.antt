@@ -1,11 +1,10 @@
-use Rattle.std.proofs.Common.{◌-◌, ◌≤◌, length, take}
-use Rattle.sheet.specs.Views.{names_of}
-use Rattle.net_writing.specs.Blocks.{name_lines}
+use Rattle.std.proofs.Common.{take}
+use Rattle.std.specs.List.{flat_map}
+use Rattle.texts.specs.Forms.{style_line}
+use Rattle.texts.specs.Lines.{ended}
+use Rattle.sheet.specs.Stored.{bytes_of}
 use Rattle.net_writing.specs.Putting.{Puts}
 use Rattle.net_writing.proofs.names.put_names.Given as goal
 
 abbrev pub invariant-loop-name : goal.invariant-loop-name
-invariant-loop-name l = (l.style ≤ length (names_of l.sheet)) × Puts l.initial.buffer l.at (name_lines (take l.style (names_of l.sheet))) l.buffer l.end
-
-abbrev pub decreases-loop-name : goal.decreases-loop-name
-decreases-loop-name l = length (names_of l.sheet) - l.style
+invariant-loop-name l = Puts l.initial.cursor (flat_map (λ name. ended (style_line (bytes_of name))) (take l.name-index l.name-items)) l.cursor

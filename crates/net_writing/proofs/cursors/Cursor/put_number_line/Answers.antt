@@ -1,0 +1,7 @@
+use Rattle.net_writing.proofs.Puts.{puts_then}
+use Rattle.net_writing.proofs.cursors.Cursor.put_number_line.Goals as goal
+
+pub returns : goal.returns
+returns c = record {
+  puts_the_line = puts_then (puts_then c.put.ensures.puts_the_bytes c.put_number.ensures.puts_the_digits) c.put-2.ensures.puts_the_bytes;
+}
