@@ -3,8 +3,9 @@ use Rattle.std.proofs.Common.{◌≡◌, ℕ, ◌+◌, ◌*◌, ◌≤◌, List,
 use Rattle.std.proofs.lemmas.List.{length-append, length_push, get_or_default}
 use Rattle.std.specs.List.{flat_map, sum_by}
 use Rattle.std.proofs.lemmas.Grind.{flat_map-append}
+use Rattle.std.proofs.lemmas.List.Concat.{length-flat_map}
 use Rattle.std.proofs.lemmas.List.Folds.{flat_map-map}
-use Rattle.std.proofs.lemmas.List.Sums.{sum_by-cons}
+use Rattle.std.proofs.lemmas.List.Sums.{sum_by-cons, sum_by-le}
 use Rattle.theory.specs.Limits.{style_limit}
 use Rattle.theory.specs.Nets.{Net, Proper}
 use Rattle.theory.specs.Places.{Place}
@@ -15,7 +16,7 @@ use Rattle.texts.specs.NetText.{cell_bytes, place_line, places_line, net_opening
 use Rattle.sheet.specs.Stored.{bytes_of}
 use Rattle.sheet.specs.declared.names.Name.{Name}
 use Rattle.net_writing.specs.Blocks.{name_lines, place_lines}
-use Rattle.net_writing.proofs.Joins.{joined_even, joined_short}
+use Rattle.net_writing.proofs.Joins.{joined_even}
 
 pub place_line_length : (p : Place) → length (ended (place_line p)) ≡ 8 + length (flat_map cell_bytes p.cells)
 place_line_length p = length_push (place_line p) 10 ∙ omega arith
@@ -57,10 +58,11 @@ name_lines_length (name ∷ stored) =
 -- the names are few and short
 pub name_lines_short : (names : List (List ℕ)) → NamesFormed names → length names ≤ style_limit → length (name_lines names) ≤ 304
 name_lines_short names formed few =
-    let each = joined_short (λ name. ended (style_line name)) 19 names
+    let each = sum_by-le (λ name. length (ended (style_line name))) 19 names
     (λ i d h. omega (arith, name_line_length (get_or names i d), ap length (get_or_default names i d [] h), (formed i h).few)) in
-    omega arith
+    omega (arith, length-flat_map (λ name. ended (style_line name)) names, each)
 
+-- the length of seven lists in a row
 lengths : (a b c d e f g : List ℕ) → length (a ++ (b ++ (c ++ (d ++ (e ++ (f ++ g)))))) ≡ length a + (length b + (length c + (length d + (length e + (length f + length g)))))
 lengths a b c d e f g = simp length-append
 

@@ -1,14 +1,11 @@
 -- Bytes put into a buffer one after the other. Assumes nothing.
-use Rattle.std.proofs.Common.{◌≡◌, ℕ, ◌+◌, ◌<◌, ◌≤◌, List, [], ◌++◌, length, get_or, take, drop, refl, sym, ap, ◌∙◌, subst, ap₂, arith}
-use Rattle.std.proofs.lemmas.List.{append_assoc, append-nil, length-append, length-drop, drop-drop, take_all, take-append-drop}
+use Rattle.std.proofs.Common.{◌≡◌, ℕ, ◌+◌, ◌<◌, ◌≤◌, List, ◌++◌, length, get_or, take, drop, sym, ap, ◌∙◌, subst, ap₂, arith}
+use Rattle.std.proofs.lemmas.List.{append_assoc, length-append, length-drop, drop-drop, take_all, take-append-drop}
+use Rattle.std.proofs.lemmas.List.Folds.{length-flat_map-take}
 use Rattle.std.specs.List.{flat_map}
 use Rattle.net_writing.specs.Putting.{Puts, Room, written, left}
 use Rattle.net_writing.specs.declared.cursors.Cursor.{Cursor}
-use Rattle.net_writing.proofs.Joins.{joined_next_le, joined_take_more}
-
--- no bytes
-pub puts_none : (cursor : Cursor) → Puts cursor [] cursor
-puts_none cursor = record { same_buffer = refl; writes = sym (append-nil (written cursor)); leaves = refl }
+use Rattle.net_writing.proofs.Joins.{joined_take_more}
 
 -- where all bytes have room, the first have
 pub room_first : {cursor : Cursor} {first : List ℕ} (second : List ℕ) → Room cursor (first ++ second) → Room cursor first
@@ -41,7 +38,7 @@ module _ {X : Type 0} (f : X → List ℕ) (xs : List X) {before : Cursor} where
   -- where all pieces of a row have room, the next has
   pub room_next : {mid : Cursor} (i : ℕ) (d : X) → i < length xs → Room before (flat_map f xs) → Puts before (flat_map f (take i xs)) mid → Room mid (f (get_or xs i d))
   room_next i d h room p = record {
-    fits = omega (arith, room.fits, joined_next_le f xs i d h, ap length p.leaves, length-drop (length (flat_map f (take i xs))) (left before));
+    fits = omega (arith, room.fits, length-flat_map-take f xs i d h, ap length p.leaves, length-drop (length (flat_map f (take i xs))) (left before));
   }
 
   -- one piece more

@@ -1,5 +1,5 @@
 // Numbers in decimal, and the lines that end with one.
-ghost use Rattle.std.specs.Prelude.{◌≡◌, ◌++◌, length, decimal};
+ghost use Rattle.std.specs.Prelude.{◌≡◌, ◌≤◌, ◌++◌, length, decimal};
 ghost use Rattle.net_writing.specs.Putting.{Puts, Room};
 ghost use Rattle.texts.specs.Lines.{ended};
 
@@ -8,6 +8,7 @@ use crate::cursors::Cursor;
 // How many digits a number has.
 fn number_length(n: usize) -> usize
     ensures counts_the_digits { result ≡ length (decimal n) }
+    ensures at_most_twenty_digits { result ≤ 20 }
 {
     if n < 10 {
         return 1;

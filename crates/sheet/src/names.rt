@@ -9,7 +9,7 @@ mod forms;
 mod storing;
 
 // A name of the name form: the first `len` bytes.
-// A sheet is plain fixed memory and `Copy`: an array and a length need no heap.
+// An array and its length: plain memory without a heap, and `Copy`, which an `ArrayVec` is not.
 #[derive(Clone, Copy)]
 pub struct Name {
     bytes: [u8; NAME_LIMIT],

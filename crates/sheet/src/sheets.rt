@@ -12,7 +12,7 @@ pub mod errors;
 pub mod reading;
 
 // The first `count` names, no two of them equal.
-// Plain fixed memory and `Copy`: an array and a count need no heap.
+// An array and a count: plain memory without a heap, and `Copy`, which an `ArrayVec` is not.
 #[derive(Clone, Copy)]
 pub struct Sheet {
     names: [Name; STYLE_LIMIT],
