@@ -28,7 +28,7 @@ pub fn write_then_read<W: Wheel>(
     ensures refused_calls_change_no_sheet { is_err result ≡ true → copied_sheet.new ≡ copied_sheet.old }
 {
     let len = write(net, sheet, buffer)?;
-    read(heap, &buffer[0..len], copied_net, copied_sheet)?;
+    read(heap, &buffer[..len], copied_net, copied_sheet)?;
     Ok(len)
 }
 

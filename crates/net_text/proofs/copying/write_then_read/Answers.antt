@@ -6,11 +6,7 @@ use Rattle.std.proofs.lemmas.Result.{err_from_is_err_and}
 use Rattle.net_writing.specs.Writing.{WriteOwes}
 use Rattle.texts.specs.NetText.{net_text}
 use Rattle.net_text.proofs.Copied.{front, out_of_memory, is_net_text, same_net}
-use Rattle.net_text.proofs.copying.write_then_read.Given as given
 use Rattle.net_text.proofs.copying.write_then_read.Goals as goal
-
-lawful : (g : given.Over) → Lawful g.W.Wheel
-lawful g = let laws = g.met.W.Wheel in record { from_two = laws.at_least_two; to_nine = laws.at_most_nine; below = laws.numbers_are_below_the_order }
 
 pub returns-in_err-read : goal.returns-in_err-read
 returns-in_err-read g c =

@@ -5,7 +5,7 @@ use Rattle.texts.specs.Lines.{ended}
 use Rattle.texts.specs.NetText.{places_line}
 use Rattle.texts.proofs.Whole.{short}
 use Rattle.net.specs.Views.{view}
-use Rattle.net.proofs.Proper.{Lawful, proper}
+use Rattle.net.proofs.Proper.{proper}
 use Rattle.net.specs.declared.nets.Net.{Net}
 use Rattle.sheet.specs.Views.{names_of}
 use Rattle.sheet.specs.declared.sheets.Sheet.{Sheet}
@@ -15,16 +15,12 @@ use Rattle.net_writing.proofs.Blocks.{net_text_length}
 use Rattle.net_writing.proofs.text.text_length.Given as given
 use Rattle.net_writing.proofs.text.text_length.Goals as goal
 
--- the wheel's laws
-lawful : (g : given.Over) → Lawful g.W.Wheel
-lawful g = let laws = g.met.W.Wheel in record { from_two = laws.at_least_two; to_nine = laws.at_most_nine; below = laws.numbers_are_below_the_order }
-
 -- all blocks together are at most the limit of texts
 fits : (g : given.Over) (net : Net g.row.W.Denot g.W.Wheel) (sheet : Sheet) {k n p : ℕ} → length (names_of sheet) ≡ (view g.W.Wheel net).styles → k ≡ (view g.W.Wheel net).order → n ≡ (view g.W.Wheel net).styles → p ≡ length (view g.W.Wheel net).places
     → 6 + (length (ended (wheel_line k)) + (length (ended (styles_line n)) + (length (name_lines (names_of sheet)) + (length (ended (places_line p)) + (length (place_lines (view g.W.Wheel net).places) + 8))))) ≤ text_limit
 fits g net sheet count order styles places =
     subst (λ length. length ≤ text_limit) (net_text_length (view g.W.Wheel net) (names_of sheet) order styles places)
-    (short (view g.W.Wheel net) (names_of sheet) (record { proper = proper g.W.Wheel (lawful g) net; sheet = names_formed sheet; one_name_each = count }))
+    (short (view g.W.Wheel net) (names_of sheet) (record { proper = proper g.W.Wheel g.met.W.Wheel.laws net; sheet = names_formed sheet; one_name_each = count }))
 
 pub overflow_add-result : goal.overflow_add-result
 overflow_add-result g c = omega (arith, fits g c.args.net.now c.args.sheet.now c.requires.one_name_each (c.from.ensures ∙ c.positions.ensures.is_the_order) refl refl)
