@@ -15,11 +15,9 @@ use Rattle.sheet.proofs.Proper.{names_formed}
 use Rattle.sheet.specs.Views.{names_of}
 use Rattle.sheet.specs.declared.sheets.Sheet.{Sheet}
 
--- the front of the buffer, from 0 to len, is the text
-pub front : (buffer text before : List ℕ) (len : ℕ) → len ≡ length text → buffer ≡ text ++ drop len before → take (len - 0) buffer ≡ text
-front buffer text before len count is =
-    let whole : len - 0 ≡ len = omega arith in
-    ap₂ take whole is ∙ take_at text (drop len before) len (sym count)
+-- the front of the buffer is the text
+pub front : (buffer text before : List ℕ) (len : ℕ) → len ≡ length text → buffer ≡ text ++ drop len before → take len buffer ≡ text
+front buffer text before len count is = ap (take len) is ∙ take_at text (drop len before) len (sym count)
 
 -- where the text is a net text, only memory can be wanting
 pub out_of_memory : (k : ℕ) (text : List ℕ) (fault : TextFault) → IsNetText k text → IfSome (fault_of fault) (λ _. IsNetText k text → ⊥) → fault ≡ OutOfMemory
