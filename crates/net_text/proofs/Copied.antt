@@ -1,5 +1,5 @@
 -- A net that is written and read back. Assumes nothing.
-use Rattle.std.proofs.Common.{◌≡◌, ℕ, ◌-◌, List, ◌++◌, length, take, drop, IfSome, sym, refl, ◌∙◌, ap₂, arith}
+use Rattle.std.proofs.Common.{◌≡◌, ℕ, List, ◌++◌, length, take, drop, IfSome, sym, refl, ◌∙◌, ap}
 use Rattle.std.proofs.lemmas.List.{take_at}
 use Rattle.lines.specs.Numbers.{fault_of}
 use Rattle.lines.specs.declared.faults.TextFault.{TextFault}
