@@ -11,3 +11,7 @@ use Rattle.net.specs.declared.nets.Net.{Net}
 pub record Stands {W : Type 0} (w : Ghosts W) (net : Net W w) (values : List W) (run : List ℕ) : Type 0 where
   pub accepted : Accepted (view w net) run
   pub showing : map w.number values ≡ map (λ p. shows w.K p (position w.K run)) (view w net).places
+
+-- there is a run that a galley with these values has set
+abbrev pub StandsAfterSome : {W : Type 0} → (w : Ghosts W) → Net W w → List W → Type 0
+StandsAfterSome w net values = ((run : List ℕ) → Stands w net values run → ⊥) → ⊥

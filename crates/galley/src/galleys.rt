@@ -1,4 +1,5 @@
 // A galley stands on a net and plays it, one style after the other.
+ghost use Rattle.galley.specs.Standing.{StandsAfterSome};
 ghost use Rattle.net.specs.Views.{place_count};
 ghost use Rattle.std.specs.Prelude.{◌≡◌, vec_len};
 
@@ -22,4 +23,5 @@ pub struct Galley<'a, W: Wheel> {
     saved: Vec<W>,
     ghost one_value_each: { vec_len shown ≡ place_count net.now },
     ghost room_to_save: { vec_len saved ≡ vec_len shown },
+    ghost has_set_some_run: { StandsAfterSome W.Wheel net.now shown.items },
 }

@@ -100,6 +100,7 @@ returns g c =
           (λ style h is_free. free_accepts net run style values so.showing h is_free)
           (λ style accepts. accepts.known)
           (λ style accepts. accepts_free net run style values so.showing accepts);
+      every_galley_has_set_some_run = galley.has_set_some_run;
       offers_exactly_what_is_enabled =
           filled_offers (Free net values) net.styles c.loop-style.menu filled (Enabled (test_and_flip net) (λ p. get_or values p 0))
           (λ style h is_free. free_enabled net style values proper below h is_free)
