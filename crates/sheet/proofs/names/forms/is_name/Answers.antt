@@ -18,6 +18,7 @@ whole_word {bytes} form = record {
 only_word : {bytes word rest : List ℕ} → FirstWord bytes word rest → rest ≡ [] → NameForm bytes
 only_word {bytes} {word} {rest} first none = subst NameForm (sym (first.opens ∙ ap (λ xs. word ++ xs) none ∙ append-nil word)) first.formed
 
+-- the first word, and whether nothing follows it, tell whether the bytes are a name
 told : (bytes : List ℕ) (o : Option (Bor (List ℕ) × Bor (List ℕ))) (r : Bool) → MatchOption o ((w rest : List ℕ) → FirstWord bytes w rest → ⊥) (λ x. FirstWord bytes x.0.now x.1.now) → MatchOption o (r ≡ false) (λ x. r ≡ eqb (length x.1.now) 0) → Decides r (NameForm bytes)
 told bytes None r none is = (λ e. absurd (false≢true (sym is ∙ e)), λ form. absurd (none _ _ (whole_word form)))
 told bytes (Some x) r first is = (

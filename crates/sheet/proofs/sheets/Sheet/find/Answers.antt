@@ -6,6 +6,7 @@ use Rattle.sheet.specs.Stored.{bytes_of}
 use Rattle.sheet.specs.declared.names.Name.{Name}
 use Rattle.sheet.proofs.sheets.Sheet.find.Goals as goal
 
+-- some name of a list that has one
 some_name : (names : List Name) (i : ℕ) → i < length names → Name
 some_name [] i below = absurd (omega arith)
 some_name (name ∷ names) i below = name
