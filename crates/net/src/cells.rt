@@ -1,6 +1,7 @@
 // Cells: what a place holds for one style.
 ghost use Rattle.net.specs.Views.{cell_of};
-ghost use Rattle.std.specs.Prelude.{◌≡◌, Some, None, MatchOption, ◌≢◌};
+ghost use Rattle.std.specs.Prelude.{◌≡◌, ◌%◌, Some, None, MatchOption, ◌≢◌};
+ghost use Rattle.std.specs.Option.{option_map};
 ghost use Rattle.theory.specs.Places.{Unwanted};
 
 use wheel::turning::Wheel;
@@ -30,6 +31,17 @@ impl<W: Wheel> Cell<W> {
         ensures turns_as_told { result.turn ≡ turn }
     {
         Cell { wanted: None, turn }
+    }
+
+    // A cell by its digits: the wanted one, if any, and the turn. Digits of k or more count by their remainders.
+    pub fn from_digits(wanted: Option<u8>, turn: u8) -> Cell<W>
+        ensures wants_the_remainder { (cell_of W.Wheel result).wanted ≡ option_map (λ digit. digit % W.Wheel.K) wanted }
+        ensures turns_by_the_remainder { (cell_of W.Wheel result).turn ≡ turn % W.Wheel.K }
+    {
+        Cell {
+            wanted: wanted.map(|digit| W::from_digit(digit)),
+            turn: W::from_digit(turn),
+        }
     }
 
     // The wanted value, where the place shows another and so refuses the style.

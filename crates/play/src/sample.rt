@@ -1,9 +1,8 @@
 // The net that the program holds: styles head, body and quote on the wheel of two.
-ghost use Rattle.std.specs.Prelude.{◌≡◌, ◌%◌, IfOk, Some, None, codes, ◌≢◌};
-ghost use Rattle.net.specs.Views.{view, cell_of};
+ghost use Rattle.std.specs.Prelude.{◌≡◌, IfOk, Some, None, codes, ◌≢◌};
+ghost use Rattle.net.specs.Views.{view};
 ghost use Rattle.play.specs.Sample.{sample};
 ghost use Rattle.play.specs.declared.sample.SampleError.TheVariants.{Making, Putting};
-ghost use Rattle.std.specs.Option.{option_map};
 ghost use Rattle.wheel.specs.contracts.two.TwoWheel.TheImpl.{ghosts as of_two};
 
 use net::cells::Cell;
@@ -35,17 +34,6 @@ impl From<PlaceError> for SampleError {
     }
 }
 
-// A cell by its digits.
-fn cell(wanted: Option<u8>, turn: u8) -> Cell<Two>
-    ensures wants_the_digit { (cell_of of_two result).wanted ≡ option_map (λ d. d % 2) wanted }
-    ensures turns_by_the_digit { (cell_of of_two result).turn ≡ turn % 2 }
-{
-    match wanted {
-        Some(digit) => Cell::tested(Two::from_digit(digit), Two::from_digit(turn)),
-        None => Cell::untested(Two::from_digit(turn)),
-    }
-}
-
 pub fn sample_net(heap: Global) -> Result<Net<Two>, SampleError>
     ensures is_the_sample { IfOk result (λ n. view of_two n ≡ sample) }
 {
@@ -54,14 +42,30 @@ pub fn sample_net(heap: Global) -> Result<Net<Two>, SampleError>
     net.put_place(
         0,
         zero,
-        &[cell(Some(0), 1), cell(Some(1), 1), cell(None, 0)],
+        &[
+            Cell::from_digits(Some(0), 1),
+            Cell::from_digits(Some(1), 1),
+            Cell::from_digits(None, 0),
+        ],
     )?;
     net.put_place(
         1,
         zero,
-        &[cell(Some(0), 0), cell(Some(0), 0), cell(None, 1)],
+        &[
+            Cell::from_digits(Some(0), 0),
+            Cell::from_digits(Some(0), 0),
+            Cell::from_digits(None, 1),
+        ],
     )?;
-    net.put_place(2, zero, &[cell(None, 0), cell(None, 0), cell(Some(1), 0)])?;
+    net.put_place(
+        2,
+        zero,
+        &[
+            Cell::from_digits(None, 0),
+            Cell::from_digits(None, 0),
+            Cell::from_digits(Some(1), 0),
+        ],
+    )?;
     Ok(net)
 }
 

@@ -1,6 +1,7 @@
-use crate::nets::{cell, one_place, three_places};
+use crate::nets::{one_place, three_places};
 use galley::galleys::Galley;
 use galley::galleys::refusals::{Refusing, SetRefusal, TryRefusal};
+use net::cells::Cell;
 use std::test::Fail;
 use wheel::four::Four;
 use wheel::three::Three;
@@ -8,7 +9,11 @@ use wheel::turning::Wheel;
 
 #[test]
 fn four_accepts_once(rt: HostRuntime) -> Result<(), Fail> {
-    let net = one_place(rt.alloc(), Four::from_digit(2), &[cell::<Four>(Some(2), 2)])?;
+    let net = one_place(
+        rt.alloc(),
+        Four::from_digit(2),
+        &[Cell::from_digits(Some(2), 2)],
+    )?;
     let mut galley = Galley::stand(rt.alloc(), &net)?;
     assert!(rt; galley.set(0).is_ok());
     assert!(rt; galley.may() == 0);
@@ -34,7 +39,7 @@ fn three_turns_round(rt: HostRuntime) -> Result<(), Fail> {
     let net = one_place(
         rt.alloc(),
         Three::from_digit(1),
-        &[cell::<Three>(Some(1), 2)],
+        &[Cell::from_digits(Some(1), 2)],
     )?;
     let mut galley = Galley::stand(rt.alloc(), &net)?;
     assert!(rt; galley.set(0).is_ok());

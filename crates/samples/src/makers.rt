@@ -1,4 +1,3 @@
-use crate::nets::cell;
 use net::arcs::Arc;
 use net::cells::Cell;
 use net::nets::Net;
@@ -31,13 +30,13 @@ fn limits_are_kept(rt: HostRuntime) -> Result<(), Fail> {
     let zero = Two::from_digit(0);
     assert!(rt;
         matches!(
-            net.put_place(256, zero, &[cell(None, 0)]),
+            net.put_place(256, zero, &[Cell::from_digits(None, 0)]),
             Err(PlaceError::NoSuchPlace)
         )
     );
     assert!(rt;
         matches!(
-            net.put_place(255, zero, &[cell(None, 0)]),
+            net.put_place(255, zero, &[Cell::from_digits(None, 0)]),
             Err(PlaceError::CellCount)
         )
     );
@@ -46,11 +45,11 @@ fn limits_are_kept(rt: HostRuntime) -> Result<(), Fail> {
 
 #[test]
 fn cells_are_the_six_arcs(rt: HostRuntime) {
-    let none: Cell<Two> = cell(None, 0);
+    let none: Cell<Two> = Cell::from_digits(None, 0);
     assert!(rt; matches!(none.arc(), Arc::NoArc));
-    assert!(rt; matches!(cell(Some(0), 0).arc(), Arc::TestZero));
-    assert!(rt; matches!(cell(Some(1), 0).arc(), Arc::TestOne));
-    assert!(rt; matches!(cell(None, 1).arc(), Arc::Complement));
-    assert!(rt; matches!(cell(Some(0), 1).arc(), Arc::Fill));
-    assert!(rt; matches!(cell(Some(1), 1).arc(), Arc::Empty));
+    assert!(rt; matches!(Cell::from_digits(Some(0), 0).arc(), Arc::TestZero));
+    assert!(rt; matches!(Cell::from_digits(Some(1), 0).arc(), Arc::TestOne));
+    assert!(rt; matches!(Cell::from_digits(None, 1).arc(), Arc::Complement));
+    assert!(rt; matches!(Cell::from_digits(Some(0), 1).arc(), Arc::Fill));
+    assert!(rt; matches!(Cell::from_digits(Some(1), 1).arc(), Arc::Empty));
 }

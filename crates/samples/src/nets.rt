@@ -6,14 +6,6 @@ use std::test::Fail;
 use wheel::turning::Wheel;
 use wheel::two::Two;
 
-// A cell by its digits: the wanted one, if any, and the turn.
-pub(crate) fn cell<W: Wheel>(wanted: Option<u8>, turn: u8) -> Cell<W> {
-    match wanted {
-        Some(digit) => Cell::tested(W::from_digit(digit), W::from_digit(turn)),
-        None => Cell::untested(W::from_digit(turn)),
-    }
-}
-
 // One style and one place.
 pub(crate) fn one_place<W: Wheel>(
     heap: Global,
@@ -32,13 +24,29 @@ pub(crate) fn three_places(heap: Global) -> Result<Net<Two>, Fail> {
     net.put_place(
         0,
         zero,
-        &[cell(Some(0), 1), cell(Some(1), 1), cell(None, 0)],
+        &[
+            Cell::from_digits(Some(0), 1),
+            Cell::from_digits(Some(1), 1),
+            Cell::from_digits(None, 0),
+        ],
     )?;
     net.put_place(
         1,
         zero,
-        &[cell(Some(0), 0), cell(Some(0), 0), cell(None, 1)],
+        &[
+            Cell::from_digits(Some(0), 0),
+            Cell::from_digits(Some(0), 0),
+            Cell::from_digits(None, 1),
+        ],
     )?;
-    net.put_place(2, zero, &[cell(None, 0), cell(None, 0), cell(Some(1), 0)])?;
+    net.put_place(
+        2,
+        zero,
+        &[
+            Cell::from_digits(None, 0),
+            Cell::from_digits(None, 0),
+            Cell::from_digits(Some(1), 0),
+        ],
+    )?;
     Ok(net)
 }
