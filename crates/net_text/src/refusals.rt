@@ -5,7 +5,7 @@ ghost use Rattle.std.specs.Prelude.{◌≡◌};
 use lines::faults::TextFault;
 use net_writing::refusals::WriteRefusal;
 
-#[derive(Clone, Copy, Debug)]
+#[derive(Clone, Copy, Debug, PartialEq, Eq)]
 pub enum CopyRefusal {
     Write(WriteRefusal),
     Read(TextFault),

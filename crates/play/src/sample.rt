@@ -12,7 +12,7 @@ use std::alloc::Global;
 use wheel::turning::Wheel;
 use wheel::two::Two;
 
-#[derive(Drop)]
+#[derive(Clone, Copy, Debug, PartialEq, Eq)]
 pub enum SampleError {
     Making(NetError),
     Putting(PlaceError),

@@ -15,23 +15,15 @@ fn four_accepts_once(rt: HostRuntime) -> Result<(), Fail> {
         &[Cell::from_digits(Some(2), 2)],
     )?;
     let mut galley = Galley::stand(rt.alloc(), &net)?;
-    assert!(rt; galley.set(0).is_ok());
-    assert!(rt; galley.may() == 0);
-    match galley.set(0) {
-        Err(
-            SetRefusal::PlaceRefuses(
-                Refusing {
-                    place,
-                    shown,
-                    wanted,
-                },
-            ),
-        ) => {
-            assert!(rt; place == 0 && shown == 0 && wanted == 2);
-            Ok(())
-        },
-        _ => Err(Fail::new("the second Set is not refused by its place")),
-    }
+    assert_eq!(rt; galley.set(0), Ok(()));
+    assert_eq!(rt; galley.may(), 0);
+    let refusing = Refusing {
+        place: 0,
+        shown: 0,
+        wanted: 2,
+    };
+    assert_eq!(rt; galley.set(0), Err(SetRefusal::PlaceRefuses(refusing)));
+    Ok(())
 }
 
 #[test]
@@ -42,34 +34,26 @@ fn three_turns_round(rt: HostRuntime) -> Result<(), Fail> {
         &[Cell::from_digits(Some(1), 2)],
     )?;
     let mut galley = Galley::stand(rt.alloc(), &net)?;
-    assert!(rt; galley.set(0).is_ok());
-    match galley.set(0) {
-        Err(
-            SetRefusal::PlaceRefuses(
-                Refusing {
-                    place,
-                    shown,
-                    wanted,
-                },
-            ),
-        ) => {
-            assert!(rt; place == 0 && shown == 0 && wanted == 1);
-            Ok(())
-        },
-        _ => Err(Fail::new("the second Set is not refused by its place")),
-    }
+    assert_eq!(rt; galley.set(0), Ok(()));
+    let refusing = Refusing {
+        place: 0,
+        shown: 0,
+        wanted: 1,
+    };
+    assert_eq!(rt; galley.set(0), Err(SetRefusal::PlaceRefuses(refusing)));
+    Ok(())
 }
 
 #[test]
 fn tries_two_of_three(rt: HostRuntime) -> Result<(), Fail> {
     let net = three_places(rt.alloc())?;
     let mut galley = Galley::stand(rt.alloc(), &net)?;
-    assert!(rt; galley.may() == 1);
+    assert_eq!(rt; galley.may(), 1);
     assert_eq!(rt; galley.try_run(&[0, 1, 1])?, 2);
     assert_eq!(rt; galley.try_run(&[])?, 0);
-    assert!(rt; galley.may() == 1);
-    assert!(rt; galley.set(0).is_ok());
-    assert!(rt; galley.may() == 2);
+    assert_eq!(rt; galley.may(), 1);
+    assert_eq!(rt; galley.set(0), Ok(()));
+    assert_eq!(rt; galley.may(), 2);
     assert_eq!(rt; galley.try_run(&[1, 0, 1])?, 3);
     Ok(())
 }
@@ -78,20 +62,16 @@ fn tries_two_of_three(rt: HostRuntime) -> Result<(), Fail> {
 fn refuses_what_is_no_style(rt: HostRuntime) -> Result<(), Fail> {
     let net = three_places(rt.alloc())?;
     let mut galley = Galley::stand(rt.alloc(), &net)?;
-    assert!(rt; matches!(galley.set(3), Err(SetRefusal::UnknownStyle)));
-    assert!(rt; matches!(galley.set(255), Err(SetRefusal::UnknownStyle)));
-    assert!(rt;
-        matches!(
-            galley.try_run(&[0, 1, 3, 9]),
-            Err(TryRefusal::UnknownStyle(2))
-        )
+    assert_eq!(rt; galley.set(3), Err(SetRefusal::UnknownStyle));
+    assert_eq!(rt; galley.set(255), Err(SetRefusal::UnknownStyle));
+    assert_eq!(rt;
+        galley.try_run(&[0, 1, 3, 9]),
+        Err(TryRefusal::UnknownStyle(2))
     );
     let long = vec![in rt.alloc(); 9u8; 4097]?;
-    assert!(rt;
-        matches!(
-            galley.try_run(long.as_slice()),
-            Err(TryRefusal::RunTooLong(4097))
-        )
+    assert_eq!(rt;
+        galley.try_run(long.as_slice()),
+        Err(TryRefusal::RunTooLong(4097))
     );
     let whole = vec![in rt.alloc(); 1u8; 4096]?;
     assert_eq!(rt; galley.try_run(whole.as_slice())?, 0);

@@ -22,23 +22,19 @@ fn blank_has_one_style(rt: HostRuntime) {
 #[test]
 fn limits_are_kept(rt: HostRuntime) -> Result<(), Fail> {
     let heap = rt.alloc();
-    assert!(rt; matches!(idle(heap, 0, 0), Err(NetError::StyleCount(0))));
-    assert!(rt; matches!(idle(heap, 17, 0), Err(NetError::StyleCount(17))));
-    assert!(rt; matches!(idle(heap, 16, 257), Err(NetError::PlaceCount(257))));
+    assert_eq!(rt; idle(heap, 0, 0).err(), Some(NetError::StyleCount(0)));
+    assert_eq!(rt; idle(heap, 17, 0).err(), Some(NetError::StyleCount(17)));
+    assert_eq!(rt; idle(heap, 16, 257).err(), Some(NetError::PlaceCount(257)));
     let mut net = idle(heap, 16, 256)?;
     assert_eq!(rt; net.places(), 256);
     let zero = Two::from_digit(0);
-    assert!(rt;
-        matches!(
-            net.put_place(256, zero, &[Cell::from_digits(None, 0)]),
-            Err(PlaceError::NoSuchPlace)
-        )
+    assert_eq!(rt;
+        net.put_place(256, zero, &[Cell::from_digits(None, 0)]),
+        Err(PlaceError::NoSuchPlace)
     );
-    assert!(rt;
-        matches!(
-            net.put_place(255, zero, &[Cell::from_digits(None, 0)]),
-            Err(PlaceError::CellCount)
-        )
+    assert_eq!(rt;
+        net.put_place(255, zero, &[Cell::from_digits(None, 0)]),
+        Err(PlaceError::CellCount)
     );
     Ok(())
 }
@@ -46,10 +42,10 @@ fn limits_are_kept(rt: HostRuntime) -> Result<(), Fail> {
 #[test]
 fn cells_are_the_six_arcs(rt: HostRuntime) {
     let none: Cell<Two> = Cell::from_digits(None, 0);
-    assert!(rt; matches!(none.arc(), Arc::NoArc));
-    assert!(rt; matches!(Cell::from_digits(Some(0), 0).arc(), Arc::TestZero));
-    assert!(rt; matches!(Cell::from_digits(Some(1), 0).arc(), Arc::TestOne));
-    assert!(rt; matches!(Cell::from_digits(None, 1).arc(), Arc::Complement));
-    assert!(rt; matches!(Cell::from_digits(Some(0), 1).arc(), Arc::Fill));
-    assert!(rt; matches!(Cell::from_digits(Some(1), 1).arc(), Arc::Empty));
+    assert_eq!(rt; none.arc(), Arc::NoArc);
+    assert_eq!(rt; Cell::from_digits(Some(0), 0).arc(), Arc::TestZero);
+    assert_eq!(rt; Cell::from_digits(Some(1), 0).arc(), Arc::TestOne);
+    assert_eq!(rt; Cell::from_digits(None, 1).arc(), Arc::Complement);
+    assert_eq!(rt; Cell::from_digits(Some(0), 1).arc(), Arc::Fill);
+    assert_eq!(rt; Cell::from_digits(Some(1), 1).arc(), Arc::Empty);
 }

@@ -5,14 +5,14 @@ ghost use Rattle.std.specs.Prelude.{Some};
 use std::fmt;
 
 // A place that refuses a style, what it shows and what it wants.
-#[derive(Clone, Copy, Debug)]
+#[derive(Clone, Copy, Debug, PartialEq, Eq)]
 pub struct Refusing {
     pub place: usize,
     pub shown: u8,
     pub wanted: u8,
 }
 
-#[derive(Debug, Drop)]
+#[derive(Clone, Copy, Debug, PartialEq, Eq)]
 pub enum SetRefusal {
     // The style is not below the style count.
     UnknownStyle,
@@ -36,7 +36,7 @@ impl fmt::Display for SetRefusal {
     }
 }
 
-#[derive(Debug, Drop)]
+#[derive(Clone, Copy, Debug, PartialEq, Eq)]
 pub enum TryRefusal {
     // The length of the run, which is over 4,096.
     RunTooLong(usize),

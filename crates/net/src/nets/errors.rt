@@ -4,7 +4,7 @@ ghost use Rattle.std.specs.Prelude.{◌≡◌};
 
 use std::alloc::AllocError;
 
-#[derive(Debug, Drop)]
+#[derive(Clone, Copy, Debug, PartialEq, Eq)]
 pub enum NetError {
     // The number of styles, which is not 1 to 16.
     StyleCount(usize),
@@ -21,7 +21,7 @@ impl From<AllocError> for NetError {
     }
 }
 
-#[derive(Debug, Drop)]
+#[derive(Clone, Copy, Debug, PartialEq, Eq)]
 pub enum PlaceError {
     // The net has no place of that number.
     NoSuchPlace,
