@@ -15,7 +15,8 @@ pub mod standing;
 pub mod trying;
 
 // The net, and what each place shows after the run that has been set.
-// `saved` is room for a copy of the shown values, which Try makes.
+// `saved` is room for a copy of the shown values, which Try makes, so that Try allocates nothing.
+// That some run has been set is said here; calls still speak of the run itself, which the values do not tell.
 #[derive(Drop)]
 pub struct Galley<'a, W: Wheel> {
     net: &'a Net<W>,

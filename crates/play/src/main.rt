@@ -2,8 +2,9 @@
 #![tactic(auto)]
 
 use crate::lines::{answer_line, menu_line};
-use crate::sample::{sample_net, style_named};
+use crate::styles::style_named;
 use anyhow::anyhow;
+use example::nets::sample_net;
 use galley::galleys::Galley;
 use galley::galleys::refusals::SetRefusal;
 use net::nets::Net;
@@ -12,7 +13,7 @@ use wheel::turning::Wheel;
 use wheel::two::Two;
 
 mod lines;
-mod sample;
+mod styles;
 
 // The places with their start values, and the arc to each style.
 fn print_net(rt: &HostRuntime, net: &Net<Two>) -> anyhow::Result<()> {

@@ -1,4 +1,5 @@
-use crate::nets::{one_place, three_places};
+use crate::nets::one_place;
+use example::nets::sample_net;
 use galley::galleys::Galley;
 use galley::galleys::refusals::{Refusing, SetRefusal, TryRefusal};
 use net::cells::Cell;
@@ -46,7 +47,7 @@ fn three_turns_round(rt: HostRuntime) -> Result<(), Fail> {
 
 #[test]
 fn tries_two_of_three(rt: HostRuntime) -> Result<(), Fail> {
-    let net = three_places(rt.alloc())?;
+    let net = sample_net(rt.alloc())?;
     let mut galley = Galley::stand(rt.alloc(), &net)?;
     assert_eq!(rt; galley.may(), 1);
     assert_eq!(rt; galley.try_run(&[0, 1, 1])?, 2);
@@ -60,7 +61,7 @@ fn tries_two_of_three(rt: HostRuntime) -> Result<(), Fail> {
 
 #[test]
 fn refuses_what_is_no_style(rt: HostRuntime) -> Result<(), Fail> {
-    let net = three_places(rt.alloc())?;
+    let net = sample_net(rt.alloc())?;
     let mut galley = Galley::stand(rt.alloc(), &net)?;
     assert_eq!(rt; galley.set(3), Err(SetRefusal::UnknownStyle));
     assert_eq!(rt; galley.set(255), Err(SetRefusal::UnknownStyle));

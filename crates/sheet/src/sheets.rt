@@ -13,6 +13,7 @@ pub mod reading;
 
 // The first `count` names, no two of them equal.
 // An array and a count: plain memory without a heap, and `Copy`, which an `ArrayVec` is not.
+// A sheet has no `Model`: one of a `Copy` type gives its fields back, and the names do not tell the unused slots.
 #[derive(Clone, Copy)]
 pub struct Sheet {
     names: [Name; STYLE_LIMIT],

@@ -38,8 +38,4 @@ impl Wheel for Four {
             value: (self.value + (4 - by.value)) % 4,
         }
     }
-
-    fn same(self, other: Four) -> bool {
-        self == other
-    }
 }

@@ -58,10 +58,6 @@ impl Wheel for Three {
     fn turn_back(self, by: Three) -> Three {
         Three::wrapped(self.value - by.value)
     }
-
-    fn same(self, other: Three) -> bool {
-        self == other
-    }
 }
 
 impl DividingWheel for Three {

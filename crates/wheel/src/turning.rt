@@ -36,9 +36,12 @@ pub trait Wheel: Copy {
     fn turn_back(self, by: Self) -> Self
         ensures stands_for_the_difference { number result ≡ (number self + (K - number by)) % K };
 
-    // Whether two positions stand for one number. Each wheel tells it itself: `==` tells two values of one number apart.
+    // Whether two positions stand for one number. (`==` on a wheel may tell two values of one number apart.)
     fn same(self, other: Self) -> bool
-        ensures yes_exactly_for_one_number { (result ≡ true → number self ≡ number other) × (number self ≡ number other → result ≡ true) };
+        ensures yes_exactly_for_one_number { (result ≡ true → number self ≡ number other) × (number self ≡ number other → result ≡ true) }
+    {
+        self.digit() == other.digit()
+    }
 
     // k is from 2 to 9, and every number is below k.
     ghost laws: { WheelLaws K number };

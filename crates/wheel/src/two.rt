@@ -39,10 +39,6 @@ impl Wheel for Two {
     fn turn_back(self, by: Two) -> Two {
         self.turn(by)
     }
-
-    fn same(self, other: Two) -> bool {
-        self == other
-    }
 }
 
 impl DividingWheel for Two {

@@ -18,6 +18,7 @@ impl<W: Wheel> Galley<'_, W> {
         let mut menu = 0u16;
         for style in 0..self.net.styles() {
             let cells = self.net.cells_for(style).unwrap();
+            // As `first_refusing` goes, but May reads no digits.
             let refusing = 'first: {
                 for (place, cell) in cells.iter().enumerate() {
                     if cell.missed(self.shown[place]).is_some() {

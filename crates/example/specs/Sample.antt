@@ -1,4 +1,4 @@
--- The net that the program holds. Assumes nothing.
+-- The net of the example. Assumes nothing.
 use Rattle.std.specs.Prelude.{ℕ, List, [], ◌∷◌, Some, None}
 use Rattle.theory.specs.Nets as N
 use Rattle.theory.specs.Places as P

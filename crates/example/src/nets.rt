@@ -1,8 +1,8 @@
-// The net that the program holds: styles head, body and quote on the wheel of two.
-ghost use Rattle.std.specs.Prelude.{◌≡◌, IfOk, Some, None, codes, ◌≢◌};
+// The example: a net of the styles head, body and quote on the wheel of two.
+ghost use Rattle.std.specs.Prelude.{◌≡◌, IfOk};
 ghost use Rattle.net.specs.Views.{view};
-ghost use Rattle.play.specs.Sample.{sample};
-ghost use Rattle.play.specs.declared.sample.SampleError.TheVariants.{Making, Putting};
+ghost use Rattle.example.specs.Sample.{sample};
+ghost use Rattle.example.specs.declared.nets.SampleError.TheVariants.{Making, Putting};
 ghost use Rattle.wheel.specs.contracts.two.TwoWheel.TheImpl.{ghosts as of_two};
 
 use net::cells::Cell;
@@ -67,19 +67,4 @@ pub fn sample_net(heap: Global) -> Result<Net<Two>, SampleError>
         ],
     )?;
     Ok(net)
-}
-
-// The number of the style that a word names, if it names one.
-pub fn style_named(word: &str) -> Option<u8>
-    ensures head_is_0 { word.now ≡ codes "head" → result ≡ Some 0 }
-    ensures body_is_1 { word.now ≡ codes "body" → result ≡ Some 1 }
-    ensures quote_is_2 { word.now ≡ codes "quote" → result ≡ Some 2 }
-    ensures others_are_none { (word.now ≢ codes "head") → (word.now ≢ codes "body") → (word.now ≢ codes "quote") → result ≡ None }
-{
-    match word {
-        "head" => Some(0),
-        "body" => Some(1),
-        "quote" => Some(2),
-        _ => None,
-    }
 }

@@ -1,0 +1,17 @@
+// The names of the styles.
+ghost use Rattle.std.specs.Prelude.{◌≡◌, Some, None, codes, ◌≢◌};
+
+// The number of the style that a word names, if it names one.
+pub fn style_named(word: &str) -> Option<u8>
+    ensures head_is_0 { word.now ≡ codes "head" → result ≡ Some 0 }
+    ensures body_is_1 { word.now ≡ codes "body" → result ≡ Some 1 }
+    ensures quote_is_2 { word.now ≡ codes "quote" → result ≡ Some 2 }
+    ensures others_are_none { (word.now ≢ codes "head") → (word.now ≢ codes "body") → (word.now ≢ codes "quote") → result ≡ None }
+{
+    match word {
+        "head" => Some(0),
+        "body" => Some(1),
+        "quote" => Some(2),
+        _ => None,
+    }
+}
