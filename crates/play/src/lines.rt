@@ -1,43 +1,77 @@
 // The lines that are printed.
-ghost use Rattle.std.specs.Prelude.{◌≡◌, ◌<◌, ◌++◌, IfOk, string_bytes, OnOk};
+ghost use Rattle.std.specs.Prelude.{◌<◌, Some};
 ghost use Rattle.play.specs.Lines.{answer_bytes, offer_bytes, menu_bytes};
 
+use crate::styles::STYLES;
 use galley::galleys::refusals::SetRefusal;
-use std::alloc::{AllocError, Global};
+use std::fmt;
 
 // What Set answered for a word.
-pub fn answer_line(
-    heap: Global,
-    word: &str,
-    answer: Result<(), SetRefusal>,
-) -> Result<String, AllocError>
-    ensures says_what_set_answered { IfOk result (λ s. string_bytes s ≡ answer_bytes word.now answer) }
-{
-    match answer {
-        Ok(()) => format!(in heap; "{word}: set"),
-        Err(refusal) => format!(in heap; "{word}: refused, {refusal}"),
+#[derive(Clone, Copy)]
+pub struct Answer<'a> {
+    pub word: &'a str,
+    pub answer: Result<(), SetRefusal>,
+}
+
+impl fmt::Display for Answer<'_> {
+    ghost output = { λ it. Some (answer_bytes it.word.now it.answer) };
+
+    fn fmt<W: fmt::Write>(&self, f: &mut fmt::Formatter<W>) -> fmt::Result {
+        let word = self.word;
+        match self.answer {
+            Ok(()) => write!(f, "{word}: set"),
+            Err(refusal) => write!(f, "{word}: refused, {refusal}"),
+        }
     }
 }
 
-// Adds a style's name where the menu offers it.
-fn push_offer(line: &mut String, menu: u16, style: u8, name: &str) -> Result<(), AllocError>
-    requires the_menu_has_such_a_bit { style < 16 }
-    ensures adds_what_is_offered { OnOk result (string_bytes line.new ≡ string_bytes line.old ++ offer_bytes menu style name.now) }
-{
-    if (menu >> style) % 2 == 1 {
-        line.push_str(" ")?;
-        line.push_str(name)?;
+// A style's name where the menu offers it, and nothing else.
+#[derive(Clone, Copy)]
+struct Offer<'a> {
+    menu: u16,
+    style: u8,
+    name: &'a str,
+    ghost the_menu_has_such_a_bit: { style < 16 },
+}
+
+impl fmt::Display for Offer<'_> {
+    ghost output = { λ it. Some (offer_bytes it.menu it.style it.name.now) };
+
+    fn fmt<W: fmt::Write>(&self, f: &mut fmt::Formatter<W>) -> fmt::Result {
+        let name = self.name;
+        if (self.menu >> self.style) % 2 == 1 {
+            write!(f, " {name}")?;
+        }
+        Ok(())
     }
-    Ok(())
 }
 
 // The styles that a menu offers.
-pub fn menu_line(heap: Global, menu: u16) -> Result<String, AllocError>
-    ensures lists_what_is_offered { IfOk result (λ s. string_bytes s ≡ menu_bytes menu) }
-{
-    let mut line = String::from_str(heap, "  may follow:")?;
-    push_offer(&mut line, menu, 0, "head")?;
-    push_offer(&mut line, menu, 1, "body")?;
-    push_offer(&mut line, menu, 2, "quote")?;
-    Ok(line)
+#[derive(Clone, Copy)]
+pub struct Menu {
+    pub offers: u16,
+}
+
+impl fmt::Display for Menu {
+    ghost output = { λ it. Some (menu_bytes it.offers) };
+
+    fn fmt<W: fmt::Write>(&self, f: &mut fmt::Formatter<W>) -> fmt::Result {
+        let menu = self.offers;
+        let head = Offer {
+            menu,
+            style: 0,
+            name: STYLES[0],
+        };
+        let body = Offer {
+            menu,
+            style: 1,
+            name: STYLES[1],
+        };
+        let quote = Offer {
+            menu,
+            style: 2,
+            name: STYLES[2],
+        };
+        write!(f, "  may follow:{head}{body}{quote}")
+    }
 }

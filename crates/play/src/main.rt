@@ -1,8 +1,8 @@
 // Plays a net of three styles over the styles that are named as arguments, and prints what each step did.
 #![tactic(auto)]
 
-use crate::lines::{answer_line, menu_line};
-use crate::styles::style_named;
+use crate::lines::{Answer, Menu};
+use crate::styles::{STYLES, style_named};
 use anyhow::anyhow;
 use example::nets::sample_net;
 use galley::galleys::Galley;
@@ -21,7 +21,7 @@ fn print_net(rt: &HostRuntime, net: &Net<Two>) -> anyhow::Result<()> {
         if let Some(start) = net.start(place) {
             let digit = start.digit();
             print!(rt; "place {place} starts at {digit}:")?;
-            for (style, name) in ["head", "body", "quote"].iter().enumerate() {
+            for (style, name) in STYLES.iter().enumerate() {
                 if let Some(cell) = net.cell(place, style) {
                     let arc = cell.arc();
                     print!(rt; " {name} {arc};")?;
@@ -34,18 +34,22 @@ fn print_net(rt: &HostRuntime, net: &Net<Two>) -> anyhow::Result<()> {
 }
 
 fn play(rt: &HostRuntime, net: &Net<Two>) -> anyhow::Result<()> {
-    let heap = rt.alloc();
-    let Ok(mut galley) = Galley::stand(heap, net) else {
+    let Ok(mut galley) = Galley::stand(rt.alloc(), net) else {
         return Err(anyhow!("no memory for a galley"));
     };
-    rt.println(menu_line(heap, galley.may())?)?;
+    rt.println(Menu {
+        offers: galley.may(),
+    })?;
     for word in env::args(rt)?.skip(1) {
-        let answer = match style_named(word.as_str()) {
+        let word = word.as_str();
+        let answer = match style_named(word) {
             Some(style) => galley.set(style),
             None => Err(SetRefusal::UnknownStyle),
         };
-        rt.println(answer_line(heap, word.as_str(), answer)?)?;
-        rt.println(menu_line(heap, galley.may())?)?;
+        rt.println(Answer { word, answer })?;
+        rt.println(Menu {
+            offers: galley.may(),
+        })?;
     }
     Ok(())
 }
