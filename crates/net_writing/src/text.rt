@@ -34,11 +34,14 @@ pub(crate) fn put_text<W: Wheel>(cursor: &mut Cursor<'_>, net: &Net<W>, sheet: &
     requires room { Room cursor.old (net_text (view W.Wheel net.now) (names_of sheet.now)) }
     ensures puts_the_text { Puts cursor.old (net_text (view W.Wheel net.now) (names_of sheet.now)) cursor.new }
 {
+    let wheel = usize::from(W::positions());
+    let styles = net.styles();
+    let places = net.places();
     cursor.put(NET_OPENING);
-    cursor.put_number_line(WHEEL, usize::from(W::positions()));
-    cursor.put_number_line(STYLES, net.styles());
+    cursor.put_number_line(WHEEL, wheel);
+    cursor.put_number_line(STYLES, styles);
     put_names(cursor, sheet);
-    cursor.put_number_line(PLACES, net.places());
+    cursor.put_number_line(PLACES, places);
     put_places(cursor, net);
     cursor.put(NET_END);
 }
