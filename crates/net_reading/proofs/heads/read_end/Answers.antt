@@ -1,10 +1,7 @@
-use Rattle.std.proofs.Common.{◌≡◌, [], ◌∷◌, ◌++◌, length, sym, ap, ◌∙◌, add-one}
+use Rattle.std.proofs.Common.{length, sym, ap, add-one}
 use Rattle.lines.proofs.Refused.{allowed}
-use Rattle.std.proofs.lemmas.List.{nil_from_length}
 use Rattle.std.proofs.lemmas.Option.{MatchOption-at_some}
-use Rattle.std.proofs.lemmas.Bool.{eqb-true, eqb-false}
-use Rattle.texts.specs.Lines.{line_feed}
-use Rattle.texts.specs.NetText.{net_end}
+use Rattle.std.proofs.lemmas.Bool.{eqb-false}
 use Rattle.net_reading.specs.Reading.{extra}
 use Rattle.net_reading.proofs.heads.read_end.Goals as goal
 
@@ -15,12 +12,4 @@ returns-then-not-is_empty c =
       at_the_end_or_faulty =
           extra {rest = c.in_ok-rest.rest.now} (rw add-one at c.form-then-not-is_empty.ensures.is_a_fault_of_form) (MatchOption-at_some _ _ _ some c.literal.ensures.gives_what_follows_the_key)
           (λ e. eqb-false _ 0 (sym c.if-not-is_empty.ensures) (ap length e));
-    }
-
-pub returns : goal.returns
-returns c =
-    let some = allowed _ _ _ c.in_ok-rest.ensures.value in
-    let none : c.in_ok-rest.rest.now ≡ [] = nil_from_length _ (eqb-true _ 0 (sym c.if-not-is_empty.ensures)) in
-    record {
-      at_the_end_or_faulty = MatchOption-at_some _ _ _ some c.literal.ensures.gives_what_follows_the_key ∙ ap (λ r. net_end ++ (line_feed ∷ r)) none;
     }

@@ -6,7 +6,7 @@ use Rattle.std.proofs.lemmas.Option.{MatchOption-at_none, MatchOption-at_some}
 use Rattle.texts.specs.Forms.{wheel_line}
 use Rattle.texts.proofs.Forms.{Done}
 use Rattle.texts.proofs.NetStages.{fault_opening, fault_wheel_line, fault_other_wheel, fault_styles_line}
-use Rattle.net_reading.proofs.FirstFaults.{form_told, wheel_number, no_wheel_line, no_styles_line, opening_done, wheel_done, three_lines}
+use Rattle.net_reading.proofs.FirstFaults.{form_told, wheel_number, no_wheel_line, no_styles_line, opening_done, wheel_done}
 use Rattle.net_reading.proofs.heads.read_head.Goals as goal
 
 pub returns-in_err-rest : goal.returns-in_err-rest
@@ -54,12 +54,3 @@ returns-in_err-styles c =
       reads_three_lines_or_tells_the_first_fault =
           form_told _ _ _ 3 (none.1 ∙ c.form-3.ensures.is_a_fault_of_form) (fault_styles_line c.if-text-gt-TEXT_LIMIT.false c.in_ok-named.rest.now c.requires.a_wheel_of_a_text (subst (λ w. Done c.args.text.now (_ ∷ wheel_line w ∷ []) c.in_ok-named.rest.now) same (wheel_done _ rest _ _ opened named)) (no_styles_line (MatchOption-at_none _ _ none.0 (between (codes "styles=") _ _ c.new-2.ensures.start c.new-2.ensures.end c.keyed_number-2.ensures.reads_a_number_after_the_key))));
     }
-
-pub returns : goal.returns
-returns c =
-    let rest = c.in_ok-rest.rest.now in
-    let opened = MatchOption-at_some _ _ _ (allowed _ _ _ c.in_ok-rest.ensures.value) c.literal.ensures.gives_what_follows_the_key in
-    let named = MatchOption-at_some _ _ _ (allowed _ _ _ c.in_ok-named.ensures.value) (between (codes "wheel=") _ _ c.new.ensures.start c.new.ensures.end c.keyed_number.ensures.reads_a_number_after_the_key) in
-    let counted = MatchOption-at_some _ _ _ (allowed _ _ _ c.in_ok-styles.ensures.value) (between (codes "styles=") _ _ c.new-2.ensures.start c.new-2.ensures.end c.keyed_number-2.ensures.reads_a_number_after_the_key) in
-    let lines = three_lines _ _ _ _ _ _ _ _ opened named counted (c.if-named-from.false ∙ c.from.ensures) c.from-2.ensures in
-    record { reads_three_lines_or_tells_the_first_fault = (lines.0, c.if-text-gt-TEXT_LIMIT.false, lines.1) }

@@ -1,11 +1,11 @@
 use Rattle.std.proofs.Common.{◌≡◌, ℕ, ◌+◌, ◌<◌, length, refl, ap, ◌∙◌, arith, rules}
 use Rattle.std.proofs.lemmas.Result.{err_from_is_err_and}
-use Rattle.std.proofs.lemmas.Option.{MatchOption-at_none, MatchOption-at_some}
-use Rattle.lines.proofs.Refused.{refused, allowed}
+use Rattle.std.proofs.lemmas.Option.{MatchOption-at_none}
+use Rattle.lines.proofs.Refused.{refused}
 use Rattle.lines.specs.declared.faults.Cause.TheVariants.{Form}
 use Rattle.net.proofs.Proper.{proper}
 use Rattle.net.specs.Views.{view}
-use Rattle.net_reading.proofs.SoFar.{place_more, places_break, places_all}
+use Rattle.net_reading.proofs.SoFar.{places_break, places_all}
 use Rattle.net_reading.proofs.nets.read_places.Given as given
 use Rattle.net_reading.proofs.nets.read_places.Goals as goal
 
@@ -31,17 +31,6 @@ returns-in_err-start g c =
           places_break c.loop-place.invariant (proper g.W.Wheel g.met.W.Wheel.laws c.loop-place.net) refl c.in_err-start.field-0.0 (omega (arith, c.places-place-end.ensures.counts_the_places))
           (MatchOption-at_none _ _ none.0 c.place_line.ensures.reads_a_places_line)
           (none.1 ∙ c.form.ensures.is_a_fault_of_form ∙ ap (λ (n : ℕ). record { line = 5 + n + c.loop-place.place; cause = Form }) c.place_line.ensures.as_many_cells_as_before);
-    }
-
-pub loop-place-preserved : goal.loop-place-preserved
-loop-place-preserved g c =
-    let some = allowed _ _ _ c.in_ok-start.ensures.value in
-    let more = place_more c.loop-place.invariant _ c.in_ok-start.after.now (view g.W.Wheel c.put.new.net) (MatchOption-at_some _ _ _ some c.place_line.ensures.reads_a_places_line) (omega (arith, c.places-place-end.ensures.counts_the_places)) c.put.ensures.replaces_the_place in
-    record {
-      as_many_styles = more.as_many_styles;
-      as_many_places = more.as_many_places;
-      one_cell_each = c.place_line.ensures.as_many_cells_as_before ∙ more.one_cell_each;
-      opened = more.opened;
     }
 
 pub returns : goal.returns

@@ -1,8 +1,8 @@
 use Rattle.std.proofs.Common.{◌≡◌, map, length, refl, ap, ◌∙◌, arith, ltb-false, ltb-true}
-use Rattle.lines.proofs.FirstBytes.{after, opened, first}
+use Rattle.lines.proofs.FirstBytes.{opened, first}
 use Rattle.std.proofs.lemmas.List.{length-map}
 use Rattle.net.specs.Views.{cell_of}
-use Rattle.net_reading.proofs.CellBytes.{no_start, too_few_cells, no_end, place_read}
+use Rattle.net_reading.proofs.CellBytes.{no_start, no_end}
 use Rattle.net_reading.proofs.places.place_line.Goals as goal
 use Rattle.net_reading.proofs.places.place_line.Goals.{in_default-2-via-then-branch-lt1-2, in_default-2-via-else-branch-lt1-2+in_default-1}
 
@@ -12,25 +12,6 @@ returns-in_err-start g c =
     record {
       reads_a_places_line = no_start c.in_ok-literal.ensures.gives_what_follows_the_key c.in_err-start.ensures.reads_a_digit_of_the_wheel;
       as_many_cells_as_before = refl;
-    }
-
-pub returns-in_err-read_cells : goal.returns-in_err-read_cells
-returns-in_err-read_cells g c =
-    let left = c.in_ok-literal.field-0.now in
-    rw c.from_residual-in_err-read_cells.ensures
-    record {
-      reads_a_places_line = too_few_cells c.in_ok-literal.ensures.gives_what_follows_the_key (opened left _ (omega (arith, ltb-false)) refl) c.in_err-read_cells.ensures.reads_every_cell;
-      as_many_cells_as_before = c.in_err-read_cells.ensures.as_many_cells_as_before;
-    }
-
-pub returns-in-10 : goal.returns-in-10
-returns-in-10 g c =
-    let left = c.in_ok-literal.field-0.now in
-    let rest = c.in_ok-read_cells.field-0.now in
-    record {
-      reads_a_places_line =
-          place_read c.in_ok-literal.ensures.gives_what_follows_the_key (opened left _ (omega (arith, ltb-false)) refl) (g.W.Wheel.number c.in_ok-start.start) _ rest (after rest) c.in_ok-start.ensures.reads_a_digit_of_the_wheel c.in_ok-read_cells.ensures.reads_every_cell (opened rest _ (omega (arith, ltb-false)) (omega arith));
-      as_many_cells_as_before = c.in_ok-read_cells.ensures.as_many_cells_as_before;
     }
 
 pub returns-in_default-2 : goal.returns-in_default-2
