@@ -1,8 +1,8 @@
 -- Lines of a key and a number: the bytes tell the number and what follows. Assumes nothing.
-use Rattle.std.proofs.Common.{◌≡◌, ℕ, List, [], ◌∷◌, ◌++◌, drop, decimal, Option, sym, ap, ◌∙◌, ⊎_elim, subst₂, arith, MatchOption}
+use Rattle.std.proofs.Common.{◌≡◌, ℕ, List, [], ◌∷◌, ◌++◌, drop, decimal, Option, sym, ap, ◌∙◌, ⊎_elim, subst₂, arith}
 use Rattle.std.specs.Borrow.{Bor}
 use Rattle.std.proofs.lemmas.List.{append_assoc, append_cancel_left}
-use Rattle.lines.specs.Opening.{NumberLine}
+use Rattle.lines.specs.Opening.{NumberLine, ReadsNumber}
 use Rattle.lines.proofs.Decimals.{goes_on}
 
 -- with the key in front
@@ -30,6 +30,5 @@ one_number {key} {v} {v'} {rest} {rest'} h k =
     ⊎_elim (λ same. (same.0, ap (drop 1) same.1)) (λ more. absurd (omega (arith, more.digit))) (goes_on v v' (10 ∷ rest) rest' h.small k.small both)
 
 -- what a reader of a number says, at the ends that its range was made of
-pub between : (key bytes : List ℕ) (o : Option (ℕ × Bor (List ℕ))) {low high from to : ℕ} → low ≡ from → high ≡ to → MatchOption o ((v : ℕ) (rest : List ℕ) → NumberLine key low high bytes v rest → ⊥) (λ x. NumberLine key low high bytes x.0 x.1.now) → MatchOption o ((v : ℕ) (rest : List ℕ) → NumberLine key from to bytes v rest → ⊥) (λ x. NumberLine key from to bytes x.0 x.1.now)
-between key bytes o low high read =
-    subst₂ (λ a b. MatchOption o ((v : ℕ) (rest : List ℕ) → NumberLine key a b bytes v rest → ⊥) (λ x. NumberLine key a b bytes x.0 x.1.now)) low high read
+pub between : (key bytes : List ℕ) (read : Option (ℕ × Bor (List ℕ))) {low high from to : ℕ} → low ≡ from → high ≡ to → ReadsNumber key low high bytes read → ReadsNumber key from to bytes read
+between key bytes read low high reads = subst₂ (λ a b. ReadsNumber key a b bytes read) low high reads

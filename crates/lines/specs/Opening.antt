@@ -1,5 +1,6 @@
 -- What the bytes that are left of a text open with. Assumes nothing.
-use Rattle.std.specs.Prelude.{◌≡◌, ℕ, ◌+◌, ◌<◌, ◌≤◌, true, false, List, ◌∷◌, ◌++◌, length, decimal, slice_index}
+use Rattle.std.specs.Prelude.{◌≡◌, ℕ, ◌+◌, ◌<◌, ◌≤◌, true, false, List, ◌∷◌, ◌++◌, length, decimal, Option, MatchOption, slice_index}
+use Rattle.std.specs.Borrow.{Bor}
 use Rattle.texts.specs.Forms.{style_line}
 use Rattle.texts.specs.Limits.{name_limit}
 use Rattle.texts.specs.Lines.{line_feed}
@@ -11,6 +12,11 @@ pub record NumberLine (key : List ℕ) (low high : ℕ) (bytes : List ℕ) (v : 
   pub to_high : v ≤ high
   pub small : v < 1000
   pub opens : bytes ≡ (key ++ decimal v) ++ (line_feed ∷ rest)
+
+-- what a reader of such a line answers: the number and the bytes after its line feed, or none where there is no such line
+abbrev pub ReadsNumber : List ℕ → ℕ → ℕ → List ℕ → Option (ℕ × Bor (List ℕ)) → Type 0
+ReadsNumber key low high bytes read =
+    MatchOption read ((v : ℕ) (rest : List ℕ) → NumberLine key low high bytes v rest → ⊥) (λ x. NumberLine key low high bytes x.0 x.1.now)
 
 -- the bytes open with n name bytes and no more, or n is one past the limit of a name
 pub record NameBytes (bytes : List ℕ) (n : ℕ) : Type 0 where

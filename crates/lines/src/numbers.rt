@@ -1,6 +1,6 @@
 // Numbers of a text: decimal, below 1,000, with no sign and no leading zero.
 ghost use Rattle.std.specs.Prelude.{◌≡◌, ℕ, ◌+◌, ◌<◌, List, [], MatchOption, ◌≢◌};
-ghost use Rattle.lines.specs.Opening.{NumberLine};
+ghost use Rattle.lines.specs.Opening.{ReadsNumber};
 
 use crate::literals::literal;
 use std::ops::RangeInclusive;
@@ -12,9 +12,10 @@ fn digit(byte: u8) -> Option<u16>
     byte.is_ascii_digit().then(|| u16::from(byte - b'0'))
 }
 
-// The number and the bytes after its line feed, where the bytes open with a number and a line feed.
+// The number and the bytes after its line feed, where the bytes open with a number and a line feed. (The library's `parse`
+// takes a sign and leading zeros, and is told where the digits end.)
 fn any_number<'a>(bytes: &'a [u8]) -> Option<(u16, &'a [u8])>
-    ensures reads_a_number { MatchOption result ((v : ℕ) (rest : List ℕ) → NumberLine [] 0 999 bytes.now v rest → ⊥) (λ x. NumberLine [] 0 999 bytes.now x.0 x.1.now) }
+    ensures reads_a_number { ReadsNumber [] 0 999 bytes.now result }
 {
     let [first, after @ ..] = bytes else {
         return None;
@@ -35,9 +36,9 @@ fn any_number<'a>(bytes: &'a [u8]) -> Option<(u16, &'a [u8])>
 
 // The number and the bytes after its line feed, where the bytes open with a number of the range and a line feed.
 pub fn number<'a>(bytes: &'a [u8], range: RangeInclusive<u16>) -> Option<(u16, &'a [u8])>
-    ensures reads_a_number_of_the_range { MatchOption result ((v : ℕ) (rest : List ℕ) → NumberLine [] range.start range.end bytes.now v rest → ⊥) (λ x. NumberLine [] range.start range.end bytes.now x.0 x.1.now) }
+    ensures reads_a_number_of_the_range { ReadsNumber [] range.start range.end bytes.now result }
 {
-    // Not `contains`, which leaves out the end of a range that was iterated to it.
+    // By the ends, since `contains` leaves out the end of a range that was iterated to it.
     let (low, high) = range.into_inner();
     let (value, rest) = any_number(bytes)?;
     if value < low || high < value {
@@ -52,7 +53,7 @@ pub fn keyed_number<'a>(
     key: &[u8],
     range: RangeInclusive<u16>,
 ) -> Option<(u16, &'a [u8])>
-    ensures reads_a_number_after_the_key { MatchOption result ((v : ℕ) (rest : List ℕ) → NumberLine key.now range.start range.end bytes.now v rest → ⊥) (λ x. NumberLine key.now range.start range.end bytes.now x.0 x.1.now) }
+    ensures reads_a_number_after_the_key { ReadsNumber key.now range.start range.end bytes.now result }
 {
     number(literal(bytes, key)?, range)
 }

@@ -7,7 +7,7 @@ ghost use Rattle.theory.specs.Places.{Unwanted};
 use wheel::turning::Wheel;
 
 // The wanted value if the style is tested, and the turn.
-#[derive(Clone, Copy)]
+#[derive(Clone, Copy, Debug, PartialEq, Eq)]
 pub struct Cell<W> {
     pub wanted: Option<W>,
     pub turn: W,

@@ -11,8 +11,8 @@ pub mod making;
 pub mod reading;
 
 // 1 to 16 styles, at most 256 places, and one cell for each place and style.
-// Cells lie by style: those of all places for style 0 first, then those for style 1, and so on. One table holds them, and
-// not a vector in each place, since a net gets its memory at once and Set and May go over one stretch of it.
+// Cells lie by style: those of all places for style 0 first, then those for style 1, and so on. One table holds them, since a
+// vector in each place would be an allocation for each.
 // A net has no `Model`: it would call nets of the same numbers equal, and a refused call keeps the very values.
 #[derive(Drop)]
 pub struct Net<W: Wheel> {

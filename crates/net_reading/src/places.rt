@@ -12,7 +12,8 @@ use lines::literals::literal;
 use net::cells::Cell;
 use wheel::turning::Wheel;
 
-// Reads over all the cells, and answers the bytes after them.
+// Reads over all the cells, and answers the bytes after them. One row of cells serves all places, so that a line asks for no
+// memory.
 fn read_cells<'a, W: Wheel>(bytes: &'a [u8], cells: &mut [Cell<W>]) -> Option<&'a [u8]>
     ensures reads_every_cell { MatchOption result (NoCells W.Wheel.K (length cells.old) bytes.now) (λ rest. bytes.now ≡ flat_map cell_bytes (map (cell_of W.Wheel) cells.new) ++ rest.now) }
     ensures as_many_cells_as_before { length cells.new ≡ length cells.old }

@@ -1,5 +1,4 @@
 mod Answered
 mod Blocks
-mod Decimals
 mod Joins
 mod Puts

@@ -4,16 +4,14 @@ ghost use Rattle.net_writing.specs.Putting.{Puts, Room};
 ghost use Rattle.texts.specs.Lines.{ended};
 
 use crate::cursors::Cursor;
+use itoa::Buffer;
 
 // How many digits a number has.
 fn number_length(n: usize) -> usize
     ensures counts_the_digits { result ≡ length (decimal n) }
     ensures at_most_twenty_digits { result ≤ 20 }
 {
-    if n < 10 {
-        return 1;
-    }
-    number_length(n / 10) + 1
+    Buffer::new().format(n).len()
 }
 
 // The length of the line of a key and a number.
@@ -29,10 +27,7 @@ impl Cursor<'_> {
         requires room { Room self.old (decimal n) }
         ensures puts_the_digits { Puts self.old (decimal n) self.new }
     {
-        if n >= 10 {
-            self.put_number(n / 10);
-        }
-        self.put(&[b'0' + (n % 10) as u8]);
+        self.put(Buffer::new().format(n).as_bytes());
     }
 
     // Puts the line of a key and a number.

@@ -14,8 +14,8 @@ use net::nets::Net;
 use sheet::sheets::Sheet;
 use wheel::turning::Wheel;
 
-// The length of the text of a net and its names. Lengths are counted by formulas: a put that only counts would go over
-// every cell once more.
+// The length of the text of a net and its names. Lengths have functions of their own: to put without a buffer would need a
+// second kind of cursor, and would visit every cell.
 pub(crate) fn text_length<W: Wheel>(net: &Net<W>, sheet: &Sheet) -> usize
     requires one_name_each { length (names_of sheet.now) ≡ (view W.Wheel net.now).styles }
     ensures counts_the_bytes { result ≡ length (net_text (view W.Wheel net.now) (names_of sheet.now)) }

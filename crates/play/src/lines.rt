@@ -46,7 +46,8 @@ impl fmt::Display for Offer<'_> {
     }
 }
 
-// The styles that a menu offers.
+// The styles that a menu offers. They are written out as the definition has them: with a `for` over the names, which was
+// tried, the check does not find the proof.
 #[derive(Clone, Copy)]
 pub struct Menu {
     pub offers: u16,

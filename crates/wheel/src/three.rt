@@ -48,7 +48,7 @@ impl Wheel for Three {
     }
 
     fn digit(self) -> u8 {
-        if self.value < 0 { 2 } else { self.value as u8 }
+        self.value.rem_euclid(3) as u8
     }
 
     fn turn(self, by: Three) -> Three {

@@ -9,7 +9,7 @@ use crate::galleys::Galley;
 use wheel::turning::Wheel;
 
 impl<W: Wheel> Galley<'_, W> {
-    // Bit t is 1 exactly when Set would accept style t.
+    // Bit t is 1 exactly when Set would accept style t. (The layout program reads the bits, so no set stands for them.)
     pub fn may(&self) -> u16
         ensures offers_exactly_what_set_accepts { (run : List ℕ) → HasSet W.Wheel self.now run → MayOwes (net_of W.Wheel self.now) run result }
         ensures every_galley_has_set_some_run { StandsAfterSome W.Wheel self.now.net.now self.now.shown.items }
@@ -18,7 +18,7 @@ impl<W: Wheel> Galley<'_, W> {
         let mut menu = 0u16;
         for style in 0..self.net.styles() {
             let cells = self.net.cells_for(style).unwrap();
-            // As `first_refusing` goes, but May reads no digits.
+            // By a rule of this project May goes over the places itself; `first_refusing` also reads digits.
             let refusing = 'first: {
                 for (place, cell) in cells.iter().enumerate() {
                     if cell.missed(self.shown[place]).is_some() {

@@ -8,7 +8,7 @@ use crate::names::forms::is_name;
 use texts::limits::NAME_LIMIT;
 
 impl Name {
-    // A name for where none is stored yet.
+    // A name for where none is stored yet. (An `Option` in each slot would say the count a second time.)
     pub(crate) fn unused() -> Name
         ensures is_one_hyphen { bytes_of result ≡ 45 ∷ [] }
     {
