@@ -4,7 +4,7 @@ use Rattle.lines.specs.Numbers.{at_line, fault_of}
 use Rattle.lines.specs.declared.faults.TextFault.{TextFault}
 use Rattle.lines.specs.declared.faults.TextFault.TheVariants.{Line, TooLong, OtherWheel, OutOfMemory}
 use Rattle.texts.specs.Faults as F
-use Rattle.texts.specs.NetText.{IsNetText, net_text}
+use Rattle.texts.specs.NetText.{IsNetText, net_text, Named}
 use Rattle.texts.proofs.OneFault.{not_both}
 use Rattle.wheel.specs.Laws.{WheelLaws}
 use Rattle.wheel.specs.declared.turning.Wheel.{Ghosts}
@@ -22,11 +22,15 @@ refused_exactly k text (TooLong bytes) first = λ is. not_both k text (F.over_lo
 refused_exactly k text (OtherWheel wheel) first = λ is. not_both k text (F.other_wheel wheel) is first
 refused_exactly k text OutOfMemory first = tt
 
+-- a net and as many names make a net text
+pub named : {W : Type 0} (w : Ghosts W) → WheelLaws w.K w.number → (net : Net W w) (sheet : Sheet) → length (names_of sheet) ≡ (view w net).styles → Named (view w net) (names_of sheet)
+named w laws net sheet count = record { proper = proper w laws net; sheet = names_formed sheet; one_name_each = count }
+
 pub accepted_exactly : {W : Type 0} (w : Ghosts W) → WheelLaws w.K w.number → (text : List ℕ) (net : Net W w) (sheet : Sheet) → length (names_of sheet) ≡ (view w net).styles → text ≡ net_text (view w net) (names_of sheet) → IsNetText w.K text
 accepted_exactly w laws text net sheet count is = (
   view w net,
   names_of sheet,
-  record { proper = proper w laws net; sheet = names_formed sheet; one_name_each = count },
+  named w laws net sheet count,
   refl,
   is,
 )

@@ -3,4 +3,4 @@ mod SoFar
 mod FirstFaults
 mod Parsing
 mod Sizes
-mod Exactly
+pub mod Exactly

@@ -1,7 +1,7 @@
 -- The wheel, the styles and the places that the code counts. Assumes nothing.
-use Rattle.std.proofs.Common.{◌≡◌, ℕ, ◌≤◌, List, [], ◌∷◌, ◌++◌, length, sym, ap, ◌∙◌, subst}
+use Rattle.std.proofs.Common.{◌≡◌, ℕ, ◌≤◌, List, [], ◌∷◌, ◌++◌, length, ap, ◌∙◌, subst}
 use Rattle.std.proofs.lemmas.List.{length-replicate}
-use Rattle.texts.specs.Forms.{WheelGood, StylesGood, wheel_line, styles_line}
+use Rattle.texts.specs.Forms.{StylesGood, wheel_line, styles_line}
 use Rattle.texts.specs.Limits.{text_limit}
 use Rattle.texts.specs.Lines.{text_of}
 use Rattle.texts.specs.NetText.{net_opening}
@@ -12,9 +12,6 @@ use Rattle.net.specs.declared.nets.Net.{Net}
 use Rattle.net_reading.proofs.Parsing.{ThreeRead}
 
 module _ {W : Type 0} (w : Ghosts W) where
-  pub wheel_good : WheelLaws w.K w.number → (positions : ℕ) → positions ≡ w.K → WheelGood positions
-  wheel_good laws positions is = subst WheelGood (sym is) record { from_two = laws.at_least_two; to_nine = laws.at_most_nine }
-
   pub three_read : WheelLaws w.K w.number → (positions n : ℕ) (text rest : List ℕ) → positions ≡ w.K → StylesGood n × (length text ≤ text_limit) × (text ≡ text_of (net_opening ∷ wheel_line positions ∷ styles_line n ∷ []) ++ rest) → ThreeRead w.K n text rest
   three_read laws positions n text rest is (styles, short, head) = record {
     wheel = record { from_two = laws.at_least_two; to_nine = laws.at_most_nine };

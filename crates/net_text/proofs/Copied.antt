@@ -5,13 +5,12 @@ use Rattle.lines.specs.Numbers.{fault_of}
 use Rattle.lines.specs.declared.faults.TextFault.{TextFault}
 use Rattle.lines.specs.declared.faults.TextFault.TheVariants.{Line, TooLong, OtherWheel, OutOfMemory}
 use Rattle.texts.proofs.Restored.{restored}
-use Rattle.texts.specs.NetText.{IsNetText, Named, net_text}
+use Rattle.texts.specs.NetText.{IsNetText, net_text}
 use Rattle.wheel.specs.Laws.{WheelLaws}
 use Rattle.wheel.specs.declared.turning.Wheel.{Ghosts}
-use Rattle.net.proofs.Proper.{proper}
+use Rattle.net_reading.proofs.Exactly.{named}
 use Rattle.net.specs.Views.{view}
 use Rattle.net.specs.declared.nets.Net.{Net}
-use Rattle.sheet.proofs.Proper.{names_formed}
 use Rattle.sheet.specs.Views.{names_of}
 use Rattle.sheet.specs.declared.sheets.Sheet.{Sheet}
 
@@ -27,11 +26,5 @@ out_of_memory k text (OtherWheel wheel) is never = absurd (never is)
 out_of_memory k text OutOfMemory is never = refl
 
 module _ {W : Type 0} (w : Ghosts W) (laws : WheelLaws w.K w.number) where
-  named : (net : Net W w) (sheet : Sheet) → length (names_of sheet) ≡ (view w net).styles → Named (view w net) (names_of sheet)
-  named net sheet count = record { proper = proper w laws net; sheet = names_formed sheet; one_name_each = count }
-
-  pub is_net_text : (net : Net W w) (sheet : Sheet) (text : List ℕ) → length (names_of sheet) ≡ (view w net).styles → text ≡ net_text (view w net) (names_of sheet) → IsNetText w.K text
-  is_net_text net sheet text count is = (view w net, names_of sheet, named net sheet count, refl, is)
-
   pub same_net : (net other : Net W w) (sheet others : Sheet) → length (names_of sheet) ≡ (view w net).styles → length (names_of others) ≡ (view w other).styles → net_text (view w other) (names_of others) ≡ net_text (view w net) (names_of sheet) → (view w other ≡ view w net) × (names_of others ≡ names_of sheet)
-  same_net net other sheet others count count' e = restored (view w other) (view w net) (names_of others) (names_of sheet) (named other others count') (named net sheet count) e
+  same_net net other sheet others count count' e = restored (view w other) (view w net) (names_of others) (names_of sheet) (named w laws other others count') (named w laws net sheet count) e

@@ -5,7 +5,8 @@ use Rattle.std.proofs.lemmas.Bool.{false≢true}
 use Rattle.std.proofs.lemmas.Result.{err_from_is_err_and}
 use Rattle.net_writing.specs.Writing.{WriteOwes}
 use Rattle.texts.specs.NetText.{net_text}
-use Rattle.net_text.proofs.Copied.{front, out_of_memory, is_net_text, same_net}
+use Rattle.net_text.proofs.Copied.{front, out_of_memory, same_net}
+use Rattle.net_reading.proofs.Exactly.{accepted_exactly}
 use Rattle.net_text.proofs.copying.write_then_read.Goals as goal
 
 pub returns-in_err-read : goal.returns-in_err-read
@@ -18,7 +19,7 @@ returns-in_err-read g c =
     record {
       refused_calls_change_no_net = λ _. c.read.ensures.refused_calls_change_no_net (ap is_err c.in_err-read.was);
       refused_calls_change_no_sheet = λ _. c.read.ensures.refused_calls_change_no_sheet (ap is_err c.in_err-read.was);
-      reading_a_written_net_restores_it = (subst (λ l. WriteOwes (view g.W.Wheel c.args.net.now) (names_of c.args.sheet.now) c.args.buffer.now c.write.new.buffer (Ok l)) written.1 written, out_of_memory g.W.Wheel.K _ c.in_err-read.field-0.0 (is_net_text g.W.Wheel g.met.W.Wheel.laws c.args.net.now c.args.sheet.now _ written.0 is) c.in_err-read.ensures.refused_exactly_where_it_is_no_net_text);
+      reading_a_written_net_restores_it = (subst (λ l. WriteOwes (view g.W.Wheel c.args.net.now) (names_of c.args.sheet.now) c.args.buffer.now c.write.new.buffer (Ok l)) written.1 written, out_of_memory g.W.Wheel.K _ c.in_err-read.field-0.0 (accepted_exactly g.W.Wheel g.met.W.Wheel.laws _ c.args.net.now c.args.sheet.now written.0 is) c.in_err-read.ensures.refused_exactly_where_it_is_no_net_text);
     }
 
 pub returns : goal.returns

@@ -1,4 +1,4 @@
-use Rattle.std.proofs.Common.{sym, refl, ◌∙◌, subst}
+use Rattle.std.proofs.Common.{sym, refl, subst}
 use Rattle.std.proofs.lemmas.Bool.{false≢true}
 use Rattle.theory.specs.Outcomes.{too_long, unknown_style, set_so_far, FirstUnknown}
 use Rattle.theory.specs.Positions.{Below}
@@ -24,15 +24,6 @@ returns-in-Some g c = record {
   stands_on_the_same_net = refl;
   refused_calls_change_nothing = λ e. refl;
 }
-
-pub longest_prefix-requires : goal.longest_prefix-requires
-longest_prefix-requires g c =
-    let galley = c.args.self.now in
-    record {
-      saved_are_the_shown = c.deref-2.ensures.value ∙ c.copy_from_slice.ensures.items ∙ c.deref.ensures.value;
-      one_value_each = galley.one_value_each;
-      styles_known = subst (λ n. Below n c.args.run.now) c.styles.ensures.counts_the_styles c.in_default.ensures.is_the_first;
-    }
 
 pub returns : goal.returns
 returns g c =

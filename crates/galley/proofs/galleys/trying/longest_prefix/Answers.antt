@@ -1,4 +1,4 @@
-use Rattle.std.proofs.Common.{◌≡◌, ◌+◌, map, length, get_or, vec_items, sym, ap, ◌∙◌, subst, arith, rules}
+use Rattle.std.proofs.Common.{◌≡◌, ◌+◌, map, length, get_or, vec_items, sym, ap, ◌∙◌, subst, rules}
 use Rattle.std.proofs.lemmas.List.{length-map, with_items_is}
 use Rattle.std.proofs.lemmas.Option.{MatchOption-at_some}
 use Rattle.theory.specs.Places.{cell}
@@ -8,7 +8,7 @@ use Rattle.galley.specs.Standing.{Stands}
 use Rattle.net.specs.Views.{cell_of, view}
 use Rattle.net.proofs.Proper.{number_below, proper}
 use Rattle.galley.proofs.Rows.{none_case, some_case}
-use Rattle.galley.proofs.Trying.{Going, marks, going_more, stopped_longest, stopped_firing, whole_longest, whole_firing}
+use Rattle.galley.proofs.Trying.{Going, marks, going_more, stopped_longest, stopped_firing}
 use Rattle.galley.proofs.galleys.trying.longest_prefix.Goals as goal
 
 pub loop-step-preserved : goal.loop-step-preserved
@@ -60,20 +60,4 @@ returns-then-is_some g c =
       is_the_longest_to_fire =
           subst (λ values. LongestFiring (test_and_flip (view w net)) (marks w values) run step) c.requires.saved_are_the_shown
           (stopped_firing w net c.args.saved.now run now step c.loop-step.invariant.0 c.loop-step-test.true cells row (proper g.W.Wheel g.met.W.Wheel.laws net) (number_below g.W.Wheel g.met.W.Wheel.laws now) known found.0 first);
-    }
-
-pub returns : goal.returns
-returns g c =
-    let w = g.W.Wheel in
-    let net = c.args.net.now in
-    let run = c.args.run.now in
-    let now = vec_items c.loop-step.guard.shown.now in
-    let through : c.loop-step.step ≡ length run = omega arith in
-    let whole = subst (Going w net c.args.saved.now now run) through c.loop-step.invariant.0 in
-    record {
-      shows_again_what_it_showed = search rules;
-      as_many_as_before = search rules;
-      is_the_longest = λ before so. whole_longest w net c.args.saved.now run now whole before (subst (λ values. Stands w net values before) (sym c.requires.saved_are_the_shown) so);
-      is_the_longest_to_fire =
-          subst (λ values. LongestFiring (test_and_flip (view w net)) (marks w values) run (length run)) c.requires.saved_are_the_shown (whole_firing w net c.args.saved.now run now whole);
     }

@@ -5,10 +5,6 @@ use Rattle.net.proofs.ByStyle.{row_read}
 use Rattle.net.proofs.Proper.{cells_counted, row_within}
 use Rattle.net.proofs.nets.Net.cells_for.Goals as goal
 
-pub offset_bounds-deref-from : goal.offset_bounds-deref-from
-offset_bounds-deref-from g c =
-    omega (arith, row_within g.W.Wheel c.args.self.now c.args.style c.len-places.result c.deref.result.now (omega arith) c.len-places.ensures c.deref.ensures.value)
-
 pub slice_bounds-result-end : goal.slice_bounds-result-end
 slice_bounds-result-end g c =
     row_within g.W.Wheel c.args.self.now c.args.style c.len-places.result c.deref.result.now (omega arith) c.len-places.ensures c.deref.ensures.value
