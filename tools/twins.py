@@ -19,8 +19,10 @@ def functions(text):
         head = re.match(r"(\s*)(?:pub(?:\(\w+\))? )?fn (\w+)", line)
         if not head:
             continue
-        end = next((i for i in range(at, len(lines)) if lines[i] == head[1] + "}"), at)
-        opening = next((i for i in range(at, end) if lines[i] == head[1] + "{" or lines[i].endswith(" {")), at)
+        opening = next(i for i in range(at, len(lines)) if lines[i].endswith(";") or lines[i].endswith("{") or lines[i].endswith("{}"))
+        if not lines[opening].endswith("{"):
+            continue
+        end = next(i for i in range(opening, len(lines)) if lines[i] == head[1] + "}")
         body = " ".join(x.strip() for x in lines[opening + 1 : end])
         if body:
             yield head[2], body

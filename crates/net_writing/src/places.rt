@@ -37,7 +37,7 @@ fn put_cell<W: Wheel>(cursor: &mut Cursor<'_>, cell: Cell<W>)
     cursor.put(&[b' ', wanted, digit_byte(cell.turn)]);
 }
 
-// Puts the cells of a place.
+// Puts the cells of a place. (A place is told by its net and its number: cells lie by style, so no place can be lent.)
 fn put_cells<W: Wheel>(cursor: &mut Cursor<'_>, net: &Net<W>, place: usize)
     requires there_is_such_a_place { place < length (view W.Wheel net.now).places }
     requires room { Room cursor.old (flat_map cell_bytes (place_number (view W.Wheel net.now) place).cells) }
