@@ -12,6 +12,6 @@ pub record Stands {W : Type 0} (w : Ghosts W) (net : Net W w) (values : List W) 
   pub accepted : Accepted (view w net) run
   pub showing : map w.number values ≡ map (λ p. shows w.K p (position w.K run)) (view w net).places
 
--- there is a run that a galley with these values has set
+-- it is not so that no run brings a galley to these values: there is one, though the type does not say which
 abbrev pub StandsAfterSome : {W : Type 0} → (w : Ghosts W) → Net W w → List W → Type 0
 StandsAfterSome w net values = ((run : List ℕ) → Stands w net values run → ⊥) → ⊥

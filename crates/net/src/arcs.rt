@@ -27,19 +27,27 @@ pub enum Arc {
     Empty,
 }
 
-// What the arc does to the style that it leads to.
-impl fmt::Display for Arc {
-    ghost output = { λ arc. Some (arc_bytes arc) };
-
-    fn fmt<W: fmt::Write>(&self, f: &mut fmt::Formatter<W>) -> fmt::Result {
-        f.write_str(match self {
+impl Arc {
+    // What the arc does to the style that it leads to.
+    pub fn word(self) -> &'static str
+        ensures names_the_arc { result.now ≡ arc_bytes self }
+    {
+        match self {
             Arc::NoArc => "has no arc",
             Arc::TestZero => "tests for 0",
             Arc::TestOne => "tests for 1",
             Arc::Complement => "complements",
             Arc::Fill => "fills",
             Arc::Empty => "empties",
-        })
+        }
+    }
+}
+
+impl fmt::Display for Arc {
+    ghost output = { λ arc. Some (arc_bytes arc) };
+
+    fn fmt<W: fmt::Write>(&self, f: &mut fmt::Formatter<W>) -> fmt::Result {
+        f.write_str(self.word())
     }
 }
 

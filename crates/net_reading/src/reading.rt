@@ -47,7 +47,7 @@ fn parsed<W: Wheel>(heap: Global, text: &[u8]) -> Result<(Net<W>, Sheet), TextFa
     Ok((net, sheet))
 }
 
-// Fills the net and the sheet from a net text on the net's wheel (Read).
+// Fills the net and the sheet, which the caller holds, from a net text on the net's wheel (Read).
 pub fn read<W: Wheel>(
     heap: Global,
     text: &[u8],

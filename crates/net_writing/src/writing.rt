@@ -13,7 +13,8 @@ use sheet::sheets::Sheet;
 use wheel::turning::Wheel;
 
 // Writes the text into the front of the buffer, and answers its length.
-// A net and its names come apart, and not as one value, since Write has to tell where their counts differ.
+// A net and its names are two parameters and not one value: the caller holds the two, and Write has to tell where their
+// counts differ.
 pub fn write<W: Wheel>(
     net: &Net<W>,
     sheet: &Sheet,

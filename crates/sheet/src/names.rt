@@ -9,7 +9,7 @@ mod forms;
 mod storing;
 
 // A name of the name form: the first `len` bytes.
-// An array and its length: plain memory without a heap, and `Copy`, which an `ArrayVec` is not.
+// An array and the name's length: plain memory without a heap, and `Copy`, which an `ArrayVec` is not.
 #[derive(Clone, Copy)]
 pub struct Name {
     bytes: [u8; NAME_LIMIT],

@@ -18,7 +18,8 @@ impl<W: Wheel> Galley<'_, W> {
         let mut menu = 0u16;
         for style in 0..self.net.styles() {
             let cells = self.net.cells_for(style).unwrap();
-            // By a rule of this project May goes over the places itself; `first_refusing` also reads digits.
+            // By a rule of this project May goes over the places itself and stops at the first that refuses;
+            // `first_refusing` also reads digits.
             let refusing = 'first: {
                 for (place, cell) in cells.iter().enumerate() {
                     if cell.missed(self.shown[place]).is_some() {

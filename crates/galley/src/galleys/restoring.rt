@@ -4,8 +4,8 @@ ghost use Rattle.std.specs.Prelude.{◌≡◌, length, vec_len};
 use wheel::turning::Wheel;
 
 // While it lives, the shown values are changed through it; when it ends, they are the saved ones again.
-// A slice in place of the vector was tried: the proof of `longest_prefix` does not close, since it loses sight of a slice
-// that is lent from the guard in a loop.
+// A slice in place of the vector was tried: the proof of `longest_prefix` does not close, since it no longer knows what a
+// slice holds that is lent from the guard in a loop.
 pub struct Restoring<'a, W: Wheel> {
     pub shown: &'a mut Vec<W>,
     pub saved: &'a [W],

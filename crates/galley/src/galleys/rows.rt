@@ -7,7 +7,7 @@ use crate::galleys::refusals::Refusing;
 use net::cells::Cell;
 use wheel::turning::Wheel;
 
-// The first place that refuses the style.
+// The first place that refuses the style. By a rule of this project the search is a loop over the places that ends by `break`.
 pub(super) fn first_refusing<W: Wheel>(cells: &[Cell<W>], shown: &[W]) -> Option<Refusing>
     requires a_cell_for_each_place { length cells.now ≡ length shown.now }
     ensures is_the_first { MatchOption result (NoneRefuses (map (cell_of W.Wheel) cells.now) (map W.Wheel.number shown.now) (length cells.now)) (FirstRefuses (map (cell_of W.Wheel) cells.now) (map W.Wheel.number shown.now)) }

@@ -25,7 +25,7 @@ fn first_unknown(run: &[u8], styles: usize) -> Option<usize>
 }
 
 // How many styles of the run can be set, one after the other; the shown values are then as before. It takes the galley's
-// parts and not the galley, since the guard lends one of them to be changed beside the others.
+// parts and not the galley, since one of them is lent to the guard, to be changed, beside the others.
 fn longest_prefix<W: Wheel>(net: &Net<W>, shown: &mut Vec<W>, saved: &[W], run: &[u8]) -> usize
     requires saved_are_the_shown { saved.now ≡ shown.old.items }
     requires one_value_each { vec_len shown.old ≡ place_count net.now }
