@@ -3,6 +3,7 @@
 
 pub mod dividing;
 pub mod four;
+pub mod orders;
 #[cfg(test)]
 mod tests;
 pub mod three;
