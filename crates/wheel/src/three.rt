@@ -47,8 +47,9 @@ impl Wheel for Three {
         }
     }
 
+    // By a test and not by `rem_euclid`, which divides: with it Write and the readers of cells took more than twice as long.
     fn digit(self) -> u8 {
-        self.value.rem_euclid(3) as u8
+        if self.value < 0 { 2 } else { self.value as u8 }
     }
 
     fn turn(self, by: Three) -> Three {
@@ -57,6 +58,11 @@ impl Wheel for Three {
 
     fn turn_back(self, by: Three) -> Three {
         Three::wrapped(self.value - by.value)
+    }
+
+    // Each number has one value here. The default goes through both digits: with it May and Set took more than twice as long.
+    fn same(self, other: Three) -> bool {
+        self == other
     }
 }
 
