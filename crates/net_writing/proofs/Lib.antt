@@ -1,4 +1,5 @@
 mod Answered
 mod Blocks
+mod Decimals
 mod Joins
 mod Puts

@@ -4,14 +4,17 @@ ghost use Rattle.net_writing.specs.Putting.{Puts, Room};
 ghost use Rattle.texts.specs.Lines.{ended};
 
 use crate::cursors::Cursor;
-use itoa::Buffer;
 
-// How many digits a number has.
+// How many digits a number has. (By hand, as in `put_number`: with the kit's `itoa` Write of the smallest net took half as
+// long again, and its proof rested on one crate more.)
 fn number_length(n: usize) -> usize
     ensures counts_the_digits { result ≡ length (decimal n) }
     ensures at_most_twenty_digits { result ≤ 20 }
 {
-    Buffer::new().format(n).len()
+    if n < 10 {
+        return 1;
+    }
+    number_length(n / 10) + 1
 }
 
 // The length of the line of a key and a number.
@@ -27,7 +30,11 @@ impl Cursor<'_> {
         requires room { Room self.old (decimal n) }
         ensures puts_the_digits { Puts self.old (decimal n) self.new }
     {
-        self.put(Buffer::new().format(n).as_bytes());
+        let last = [b'0' + (n % 10) as u8];
+        if n >= 10 {
+            self.put_number(n / 10);
+        }
+        self.put(&last);
     }
 
     // Puts the line of a key and a number.
