@@ -51,3 +51,11 @@ name_first bytes left name rest e h = record {
   opens = append_cancel_left (codes "style=") left (name ++ (10 ∷ rest)) (sym e ∙ h.opens ∙ append_assoc (codes "style=") name (10 ∷ rest));
   longest = λ byte more same. ap name_byte (sym (first same));
 }
+
+-- there is one name, and one rest
+pub one_name : {bytes name name' rest rest' : List ℕ} → StyleLine bytes name rest → StyleLine bytes name' rest' → (name ≡ name') × (rest ≡ rest')
+one_name {bytes} {name} {name'} {rest} {rest'} h k =
+    let left = name ++ (10 ∷ rest) in
+    let split : bytes ≡ codes "style=" ++ left = h.opens ∙ append_assoc (codes "style=") name (10 ∷ rest) in
+    let both = one_word (name_first bytes left name rest split h) (name_first bytes left name' rest' split k) in
+    (both.0, ap (drop 1) both.1)
