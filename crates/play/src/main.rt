@@ -2,17 +2,18 @@
 #![tactic(auto)]
 
 use crate::lines::{Answer, Menu};
+use crate::putting::put;
 use crate::styles::{STYLES, style_named};
 use anyhow::anyhow;
 use example::nets::sample_net;
 use galley::galleys::Galley;
-use galley::galleys::refusals::SetRefusal;
 use net::nets::Net;
 use std::env;
 use wheel::turning::Wheel;
 use wheel::two::Two;
 
 mod lines;
+mod putting;
 mod styles;
 
 // The places with their start values, and the arc to each style.
@@ -42,10 +43,7 @@ fn play(rt: &HostRuntime, net: &Net<Two>) -> anyhow::Result<()> {
     })?;
     for word in env::args(rt)?.skip(1) {
         let word = word.as_str();
-        let answer = match style_named(word) {
-            Some(style) => galley.set(style),
-            None => Err(SetRefusal::UnknownStyle),
-        };
+        let answer = put(&mut galley, style_named(word));
         rt.println(Answer { word, answer })?;
         rt.println(Menu {
             offers: galley.may(),
