@@ -1,6 +1,6 @@
 // Cells: what a place holds for one style.
 ghost use Rattle.net.specs.Views.{cell_of};
-ghost use Rattle.std.specs.Prelude.{◌≡◌, ◌%◌, Some, None, MatchOption, ◌≢◌};
+ghost use Rattle.std.specs.Prelude.{◌≡◌, ◌%◌, true, Some, None, MatchOption, ◌≢◌};
 ghost use Rattle.std.specs.Option.{option_map};
 ghost use Rattle.theory.specs.Places.{Unwanted};
 
@@ -42,6 +42,13 @@ impl<W: Wheel> Cell<W> {
             wanted: wanted.map(|digit| W::from_digit(digit)),
             turn: W::from_digit(turn),
         }
+    }
+
+    // Whether the place, showing this value, refuses the style.
+    pub fn refuses(self, shown: W) -> bool
+        ensures yes_exactly_where_unwanted { (result ≡ true → Unwanted (cell_of W.Wheel self).wanted (W.Wheel.number shown)) × (Unwanted (cell_of W.Wheel self).wanted (W.Wheel.number shown) → result ≡ true) }
+    {
+        self.wanted.is_some_and(|wanted| !wanted.same(shown))
     }
 
     // The wanted value, where the place shows another and so refuses the style.

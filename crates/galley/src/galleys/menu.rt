@@ -22,7 +22,7 @@ impl<W: Wheel> Galley<'_, W> {
             // `first_refusing` also reads digits.
             let refusing = 'first: {
                 for (place, cell) in cells.iter().enumerate() {
-                    if cell.missed(self.shown[place]).is_some() {
+                    if cell.refuses(self.shown[place]) {
                         break 'first Some(place);
                     }
                 }

@@ -2,7 +2,6 @@ use Rattle.std.proofs.Common.{◌≡◌, ◌+◌, ◌<◌, true, false, map, len
 use Rattle.std.proofs.lemmas.List.{length-map}
 use Rattle.std.proofs.lemmas.Bool.{false≢true}
 use Rattle.std.proofs.lemmas.Option.{MatchOption-at_some}
-use Rattle.std.specs.Option.{option_map}
 use Rattle.theory.proofs.Menus.{Filled, filled_set, filled_clear, filled_offers, bit_added}
 use Rattle.theory.specs.Playing.{Accepts}
 use Rattle.theory.specs.TestAndFlip.{Enabled, test_and_flip}
@@ -12,10 +11,10 @@ use Rattle.galley.specs.Rows.{RefusesAt}
 use Rattle.net.specs.Views.{idle, cell_of, CellsFor}
 use Rattle.galley.proofs.Playing.{Free, free_accepts, accepts_free, free_enabled, enabled_free, row_count}
 use Rattle.net.proofs.Proper.{number_below}
-use Rattle.galley.proofs.Rows.{read_mapped, none_case, some_case}
+use Rattle.galley.proofs.Rows.{read_mapped}
 use Rattle.galley.proofs.galleys.Galley.may.Given as given
 use Rattle.galley.proofs.galleys.Galley.may.Goals as goal
-use Rattle.galley.proofs.galleys.Galley.may.Goals.{then-loop-place-test+then-is_some, else-loop-place-test, then-is_none, else-is_none}
+use Rattle.galley.proofs.galleys.Galley.may.Goals.{then-loop-place-test+then-refuses, else-loop-place-test, then-is_none, else-is_none}
 
 pub loop-place-preserved : goal.loop-place-preserved
 loop-place-preserved g c =
@@ -27,8 +26,7 @@ loop-place-preserved g c =
     let within : i < length (vec_items shown) = omega (arith, found.count, c.args.self.now.one_value_each, shown.ok.0) in
     let here = read_mapped (cell_of w) cells i c.index-cells-place.result idle (omega arith) c.index-cells-place.is in
     let value = read_mapped w.number (vec_items shown) i c.index.result.now 0 within c.index.ensures in
-    let not_missed = none_case c.missed.result _ _ c.missed.ensures.missed_exactly_where_unwanted (sym c.if-is_some.ensures) in
-    below_more _ _ c.loop-place.invariant (λ refuses. not_missed (subst₂ Unwanted (ap (λ x. x.wanted) here) value refuses))
+    below_more _ _ c.loop-place.invariant (λ refuses. false≢true (sym c.if-refuses.false ∙ c.refuses.ensures.yes_exactly_where_unwanted.1 (subst₂ Unwanted (ap (λ x. x.wanted) here) value refuses)))
 
 -- where the search through the places ended at none, the style is free
 free : (g : given.Over) (c : goal.Joined-is_none g) → CellsFor g.W.Wheel c.args.self.now.net.now c.loop-style.style c.unwrap-cells.result.now → is_some c.loop-place-test.refusing ≡ false → Free (net_of g.W.Wheel c.args.self.now) (map g.W.Wheel.number (vec_items c.args.self.now.shown)) c.loop-style.style
@@ -37,7 +35,7 @@ free g c found none =
     let values = map w.number (vec_items c.args.self.now.shown) in
     let cells = c.unwrap-cells.result.now in
     elim c.loop-place-test.branch [
-      | then-loop-place-test+then-is_some v ↦ absurd (false≢true (sym none ∙ ap is_some v.refusing-is))
+      | then-loop-place-test+then-refuses v ↦ absurd (false≢true (sym none ∙ ap is_some v.refusing-is))
       | else-loop-place-test v ↦
           λ i h. subst (λ cs. RefusesAt cs values i → ⊥) found.row
           (c.loop-place.invariant i (omega (arith, v.loop-place-test.false, row_count (net_of w c.args.self.now) c.loop-style.style (map (cell_of w) cells) found.row, length-map cells (cell_of w))))
@@ -54,14 +52,12 @@ refused g c found some is_free =
     let i = c.loop-place.place in
     let count = row_count net c.loop-style.style (map (cell_of w) cells) found.row in
     elim c.loop-place-test.branch [
-      | then-loop-place-test+then-is_some v ↦
+      | then-loop-place-test+then-refuses v ↦
           let in_row : i < length cells = omega (arith, v.loop-place-test.true) in
           let within : i < length (vec_items shown) = omega (arith, found.count, c.args.self.now.one_value_each, shown.ok.0) in
           let here = read_mapped (cell_of w) cells i v.index-cells-place.result idle in_row v.index-cells-place.is in
           let value = read_mapped w.number (vec_items shown) i v.index.result.now 0 within v.index.ensures in
-          let missed = some_case v.missed.result _ _ v.missed.ensures.missed_exactly_where_unwanted (sym v.if-is_some.ensures) in
-          let unwanted : Unwanted (cell_of w v.index-cells-place.result).wanted (w.number v.index.result.now) =
-          subst (λ o. Unwanted (option_map w.number o) (w.number v.index.result.now)) (sym missed.1.0) missed.1.1 in
+          let unwanted = v.refuses.ensures.yes_exactly_where_unwanted.0 v.if-refuses.true in
           is_free i (omega (arith, length-map cells (cell_of w)))
           (subst (λ cs. RefusesAt cs values i) found.row (subst₂ Unwanted (ap (λ x. x.wanted) (sym here)) (sym value) unwanted))
       | else-loop-place-test v ↦ false≢true (sym (ap is_some v.refusing-is) ∙ some)
